@@ -1,0 +1,5 @@
+pub mod Modes
+pub mod Desk
+pub mod Answers
+pub mod Calls
+pub mod Transfers

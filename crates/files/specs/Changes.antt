@@ -1,0 +1,69 @@
+-- What the calls make of an image. The volume is looked at as the call finds it.
+use mathlib.Core.Bool.{Bool, not}
+use mathlib.Core.List.{List, [], _∷_, _++_}
+use Prim.Native.Nat.{ℕ, _+_, _*_, _-_}
+use lib.ListN.{length, take, drop, set}
+use lib.Dec.{eqb}
+use Rattle.ownership.specs.Bytes.{if_then_else_, part, put, putSector, blanks, filled, inSectors, range}
+use Rattle.ownership.specs.Volume.{sat}
+use Rattle.ownership.specs.Directory.{entry, entryAt, recordLength, start}
+use Rattle.ownership.specs.Blocks.{block, total, pairs, extendedBy, blockOf}
+use Rattle.ownership.specs.Owners.{logical, owned, withBits}
+use Rattle.ownership.specs.Free.{lowest, putSat, putEntry}
+use Rattle.files.specs.Records.{encoded, streamOf}
+use Rattle.files.specs.Files.{stream, records}
+
+-- Allocate: an entry of kind k in slot at, n sectors from s on marked and zero-filled, where "sequential: the lowest free sector as
+-- FAB, with no data" takes one
+unfoldable pub taken : ℕ → ℕ → ℕ
+taken k n = if eqb k 0 then n else 1
+
+unfoldable pub allocated : ℕ → List ℕ → ℕ → ℕ → ℕ → ℕ → List ℕ → List ℕ
+allocated at d k n l s img =
+    putEntry img at (entry k d l s n)
+    (putSat img (withBits 1 (sat img) (range s (taken k n)))
+    (put (256 * s) (blanks (256 * taken k n)) img))
+
+-- "Delete zeroes the entry and frees the file's sectors, its FAB too; their bytes stay."
+unfoldable pub deleted : ℕ → List ℕ → List ℕ
+deleted at img =
+    putEntry img at (blanks 32) (putSat img (withBits 0 (sat img) (owned img (entryAt img at))) img)
+
+-- bytes laid over sectors from the first one's start on, the last filled with zeros
+unfoldable pub laid : List ℕ → List ℕ → List ℕ → List ℕ
+laid [] bs img = img
+laid (s ∷ ss) bs img = laid ss (drop 256 bs) (putSector s (filled 256 (take 256 bs)) img)
+
+-- Append: the stream with the record after it, the sectors that it needs beyond those that are there, and the segments with them
+unfoldable pub longer : List ℕ → List ℕ → List ℕ → List ℕ
+longer img e r = stream img e ++ encoded (recordLength e) r
+
+unfoldable pub needed : List ℕ → List ℕ → List ℕ → ℕ
+needed img e r = inSectors (length (longer img e r)) - total (block img e)
+
+unfoldable pub newSectors : List ℕ → List ℕ → List ℕ → List ℕ
+newSectors img e r = lowest (needed img e r) img
+
+unfoldable pub newPairs : List ℕ → List ℕ → List ℕ → List (List ℕ)
+newPairs img e r = extendedBy (pairs (block img e)) (newSectors img e r)
+
+unfoldable pub appended : List ℕ → List ℕ → List ℕ → List ℕ
+appended e r img =
+    putSector (start e) (blockOf (newPairs img e r) (inSectors (length (longer img e r))) (length (longer img e r)))
+    (putSat img (withBits 1 (sat img) (newSectors img e r))
+    (laid (logical img e ++ newSectors img e r) (longer img e r) img))
+
+-- "Update, sequential: replaces a record": the stream of the records with r for number i
+unfoldable pub updated : List ℕ → ℕ → List ℕ → List ℕ → List ℕ
+updated e i r img = laid (logical img e) (streamOf (recordLength e) (set (records img e) i r)) img
+
+-- n sectors of a contiguous file from number i on, read; and written, "all or nothing"
+unfoldable pub sectorsAt : List ℕ → ℕ → ℕ → List ℕ → List ℕ
+sectorsAt e i n img = part (256 * (start e + i)) (256 * n) img
+
+unfoldable pub overwritten : List ℕ → ℕ → List ℕ → List ℕ → List ℕ
+overwritten e i bs img = put (256 * (start e + i)) bs img
+
+unfoldable pub changes-open : Unit {0}
+unfolding taken allocated deleted laid longer needed newSectors newPairs appended updated sectorsAt overwritten
+changes-open = tt

@@ -1,0 +1,55 @@
+-- A file's stream and records, the rest of soundness, and `sound` as a whole.
+use mathlib.Core.Bool.{Bool, true}
+use mathlib.Core.List.{List, []}
+use Prim.Native.Nat.{ℕ}
+use lib.ListN.{length, getD, take, drop}
+use Rattle.ownership.specs.Bytes.{_and_, _or_, if_then_else_, sector, all, flat, zeros}
+use Rattle.ownership.specs.Volume.{sound1}
+use Rattle.ownership.specs.Directory.{entries, unused, contiguous, recordLength, size, sound2}
+use Rattle.ownership.specs.Blocks.{block, streamLength, sound3}
+use Rattle.ownership.specs.Owners.{logical, sound5}
+use Rattle.files.specs.Records.{wholeRecords, recordsOf}
+
+-- the bytes of some sectors, one after the other
+unfoldable pub laidOut : List ℕ → List ℕ → List ℕ
+laidOut img ss = flat (λ s. sector s img) ss
+
+-- a sequential file's bytes: its stream of E bytes, then the tail of its last sector
+unfoldable pub stored : List ℕ → List ℕ → List ℕ
+stored img e = laidOut img (logical img e)
+
+unfoldable pub stream : List ℕ → List ℕ → List ℕ
+stream img e = take (streamLength (block img e)) (stored img e)
+
+unfoldable pub tail : List ℕ → List ℕ → List ℕ
+tail img e = drop (streamLength (block img e)) (stored img e)
+
+-- its records, and the record of a number
+unfoldable pub records : List ℕ → List ℕ → List (List ℕ)
+records img e = recordsOf (recordLength e) (stream img e)
+
+unfoldable pub recordAt : List ℕ → List ℕ → ℕ → List ℕ
+recordAt img e i = getD (records img e) i []
+
+-- how far a file goes: in sectors if contiguous, in records if sequential
+unfoldable pub extent : List ℕ → List ℕ → ℕ
+extent img e = if contiguous e then size e else length (records img e)
+
+-- Sound, 3: "Stream bytes from E on are zero."
+unfoldable pub tailSound : List ℕ → List ℕ → Bool
+tailSound img e = unused e or contiguous e or zeros (tail img e)
+
+-- Sound, 4: "The first E stream bytes are whole records."
+unfoldable pub recordsSound : List ℕ → List ℕ → Bool
+recordsSound img e = unused e or contiguous e or wholeRecords (recordLength e) (stream img e)
+
+unfoldable pub sound4 : List ℕ → Bool
+sound4 img = all (λ e. tailSound img e and recordsSound img e) (entries img)
+
+-- "A volume is sound when all of these hold"
+unfoldable pub sound : List ℕ → Bool
+sound img = sound1 img and sound2 img and sound3 img and sound4 img and sound5 img
+
+unfoldable pub files-open : Unit {0}
+unfolding laidOut stored stream tail records recordAt extent tailSound recordsSound sound4 sound
+files-open = tt

@@ -1,0 +1,85 @@
+-- "File access block (FAB), one sector for each sequential file", and point 3 of soundness but for the stream's tail.
+use mathlib.Core.Bool.{Bool, true}
+use mathlib.Core.List.{List, [], _∷_, _++_, map}
+use Prim.Native.Nat.{ℕ, _+_, _*_, _/_, _%_}
+use lib.ListN.{length, drop}
+use lib.Dec.{eqb, leb, ltb}
+use Rattle.ownership.specs.Numbers.{mostSegments}
+use Rattle.ownership.specs.Bytes.{_and_, if_then_else_, word, bytes2, sector, filled, pieces, inSectors, range, all, flat, sum, zeros}
+use Rattle.ownership.specs.Volume.{sectors}
+use Rattle.ownership.specs.Directory.{entries, unused, contiguous, start, size}
+
+unfoldable pub block : List ℕ → List ℕ → List ℕ
+block img e = sector (start e) img
+
+-- "word 0 segments n; word 2 total data sectors; bytes 4-7 stream length E; then 62 pairs of words, start and length"
+abbrev pub segments : List ℕ → ℕ
+segments f = word f 0
+
+abbrev pub total : List ℕ → ℕ
+total f = word f 2
+
+abbrev pub streamLength : List ℕ → ℕ
+streamLength f = 65536 * word f 4 + word f 6
+
+unfoldable pub pairs : List ℕ → List (List ℕ)
+pairs f = pieces (segments f) 4 (drop 8 f)
+
+abbrev pub segStart : List ℕ → ℕ
+segStart p = word p 0
+
+abbrev pub segLength : List ℕ → ℕ
+segLength p = word p 2
+
+-- a segment's sectors, and those of all segments in order
+unfoldable pub segment : List ℕ → List ℕ
+segment p = range (segStart p) (segLength p)
+
+unfoldable pub sectorsOf : List ℕ → List ℕ
+sectorsOf f = flat segment (pairs f)
+
+-- "one that follows the last segment directly lengthens it, else it starts a new segment"
+unfoldable pub extended : List (List ℕ) → ℕ → List (List ℕ)
+extended [] s = (bytes2 s ++ bytes2 1) ∷ []
+extended (p ∷ []) s =
+    if eqb (segStart p + segLength p) s
+    then (bytes2 (segStart p) ++ bytes2 (segLength p + 1)) ∷ []
+    else p ∷ (bytes2 s ++ bytes2 1) ∷ []
+extended (p ∷ q ∷ ps) s = p ∷ extended (q ∷ ps) s
+
+unfoldable pub extendedBy : List (List ℕ) → List ℕ → List (List ℕ)
+extendedBy ps [] = ps
+extendedBy ps (s ∷ ss) = extendedBy (extended ps s) ss
+
+-- an access block of these pairs, total and stream length, "unused pairs zero"
+unfoldable pub blockOf : List (List ℕ) → ℕ → ℕ → List ℕ
+blockOf ps n e =
+    filled 256
+    (bytes2 (length ps) ++ (bytes2 n ++ (bytes2 (e / 65536) ++ (bytes2 (e % 65536) ++ flat (λ p. p) ps))))
+
+-- "each segment lies inside the volume and has length 1 or more"
+unfoldable pub segmentSound : ℕ → List ℕ → Bool
+segmentSound t p = leb 1 (segLength p) and leb (segStart p + segLength p) t
+
+-- "n is at most 62 and unused pairs are zero; .. the lengths sum to the total, and the total is E/256 rounded up."
+unfoldable pub blockSound : ℕ → List ℕ → Bool
+blockSound t f =
+    leb (segments f) mostSegments and zeros (drop (8 + 4 * segments f) f) and all (segmentSound t) (pairs f)
+    and eqb (sum (map (λ p. segLength p) (pairs f))) (total f) and eqb (total f) (inSectors (streamLength f))
+
+-- "Every FAB and contiguous file lies inside the volume."
+unfoldable pub placed : List ℕ → List ℕ → Bool
+placed img e =
+    if unused e
+    then true
+    else (if contiguous e
+    then leb (start e + size e) (sectors img)
+    else ltb (start e) (sectors img) and blockSound (sectors img) (block img e))
+
+-- Sound, 3, but for "stream bytes from E on are zero"
+unfoldable pub sound3 : List ℕ → Bool
+sound3 img = all (placed img) (entries img)
+
+unfoldable pub blocks-open : Unit {0}
+unfolding block pairs segment sectorsOf extended extendedBy blockOf segmentSound blockSound placed sound3
+blocks-open = tt

@@ -1,0 +1,68 @@
+-- Table 1-1 of 000, cell by cell, and the cells in which document 01's rule differs from it.
+use mathlib.Core.Path.{_≡_, refl}
+use mathlib.Core.Bool.{Bool, true, false, not}
+use mathlib.Core.List.{List, [], _∷_, _++_}
+use Rattle.ownership.specs.Bytes.{bytes-open}
+use Rattle.desk.specs.declared.Mode.{Mode}
+use Rattle.desk.specs.declared.Mode.the-variants.{Pr, Er, Pw, Ew, Prpw, Prew, Erpw, Erew}
+use Rattle.desk.specs.Modes.{compatible, modes-open}
+
+-- the columns in the table's order; a row's mode and its cells, where an X, starred or not, is true
+columns : List Mode
+columns = Pr ∷ Er ∷ Pw ∷ Ew ∷ Prpw ∷ Prew ∷ Erpw ∷ Erew ∷ []
+
+pub record Row : Type 0 where
+  pub mode : Mode
+  pub cells : List Bool
+
+row : Mode → List Bool → Row
+row m l = record { mode = m; cells = l }
+
+x : Bool
+x = true
+
+o : Bool
+o = false
+
+pub table : List Row
+table =
+    row Pr (x ∷ x ∷ x ∷ x ∷ x ∷ x ∷ o ∷ o ∷ [])
+    ∷ row Er (o ∷ x ∷ x ∷ x ∷ o ∷ o ∷ o ∷ o ∷ [])
+    ∷ row Pw (x ∷ x ∷ x ∷ o ∷ x ∷ o ∷ x ∷ o ∷ [])
+    ∷ row Ew (x ∷ x ∷ o ∷ o ∷ o ∷ o ∷ o ∷ o ∷ [])
+    ∷ row Prpw (x ∷ o ∷ x ∷ o ∷ x ∷ o ∷ o ∷ o ∷ [])
+    ∷ row Prew (x ∷ o ∷ o ∷ o ∷ o ∷ o ∷ o ∷ o ∷ [])
+    ∷ row Erpw (o ∷ o ∷ x ∷ o ∷ o ∷ o ∷ o ∷ o ∷ [])
+    ∷ row Erew (o ∷ o ∷ o ∷ x ∷ o ∷ o ∷ o ∷ o ∷ [])
+    ∷ []
+
+-- a cell, with what the table says there
+pub record Cell : Type 0 where
+  pub existing : Mode
+  pub wanted : Mode
+  pub allowed : Bool
+
+pub cell : Mode → Mode → Bool → Cell
+cell a b c = record { existing = a; wanted = b; allowed = c }
+
+differ : Bool → Bool → Bool
+differ true b = not b
+differ false b = b
+
+listed : Bool → Cell → List Cell
+listed true c = c ∷ []
+listed false c = []
+
+across : Mode → List Mode → List Bool → List Cell
+across a [] bs = []
+across a (m ∷ ms) [] = cell a m false ∷ across a ms []
+across a (m ∷ ms) (b ∷ bs) = listed (differ (compatible a m) b) (cell a m b) ++ across a ms bs
+
+pub differing : List Row → List Cell
+differing [] = []
+differing (r ∷ rs) = across (r .mode) columns (r .cells) ++ differing rs
+
+-- of the 64 cells three differ: in each the table allows what the rule refuses
+pub table-differs : differing table ≡ cell Pr Er true ∷ cell Er Er true ∷ cell Erew Ew true ∷ []
+unfolding differing table across columns row listed differ cell x o bytes-open modes-open
+table-differs = refl
