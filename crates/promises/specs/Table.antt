@@ -7,7 +7,7 @@ use Rattle.desk.specs.declared.Mode.{Mode}
 use Rattle.desk.specs.declared.Mode.the-variants.{Pr, Er, Pw, Ew, Prpw, Prew, Erpw, Erew}
 use Rattle.desk.specs.Modes.{compatible, modes-open}
 
--- the columns in the table's order; a row's mode and its cells, where an X, starred or not, is true
+-- the existing assignments, as columns in the table's order; a wanted mode and its cells, as a row, where an X, starred or not, is true
 columns : List Mode
 columns = Pr ∷ Er ∷ Pw ∷ Ew ∷ Prpw ∷ Prew ∷ Erpw ∷ Erew ∷ []
 
@@ -38,12 +38,12 @@ table =
 
 -- a cell, with what the table says there
 pub record Cell : Type 0 where
-  pub existing : Mode
   pub wanted : Mode
+  pub existing : Mode
   pub allowed : Bool
 
 pub cell : Mode → Mode → Bool → Cell
-cell a b c = record { existing = a; wanted = b; allowed = c }
+cell a b c = record { wanted = a; existing = b; allowed = c }
 
 differ : Bool → Bool → Bool
 differ true b = not b
