@@ -1,1 +1,10 @@
 pub mod Vectors
+pub mod Tests
+pub mod Lists
+pub mod Put
+pub mod Pieces
+pub mod Search
+pub mod Bits
+pub mod Marks
+pub mod Keeps
+pub mod Entries

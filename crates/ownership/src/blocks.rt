@@ -1,0 +1,1 @@
+// File access blocks: judged, read, extended, written.

@@ -1,0 +1,1 @@
+// Bytes, words and parts of a lent image.

@@ -1,0 +1,1 @@
+// The directory: entries judged, searched, written.

@@ -1,0 +1,1 @@
+// Zero-fill of a run, and the layout of a formatted volume.

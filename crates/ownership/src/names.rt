@@ -1,0 +1,1 @@
+// Names, descriptors and volume IDs, judged.

@@ -1,0 +1,1 @@
+// The sector allocation table: bits, runs, free sectors.
