@@ -19,7 +19,7 @@ use Rattle.ownership.proofs.Tests.{and-left, and-right, both-true, or-l
 use Rattle.ownership.proofs.Lists.{all-among, among-append, distinct-tail}
 use Rattle.ownership.proofs.Keeps.{among-append-left, among-append-right}
 
-drop-take : (a n : ℕ) (l : List ℕ) → drop a (take n l) ≡ take (n - a) (drop a l)
+pub drop-take : (a n : ℕ) (l : List ℕ) → drop a (take n l) ≡ take (n - a) (drop a l)
 drop-take zero n l = rw sub-zero
 drop-take (suc a) zero l = rw zero-sub
 drop-take (suc a) (suc n) [] = sym (take-nil (suc n - suc a))

@@ -86,3 +86,25 @@ unfolding all
 all-at r [] k d h l = absurd (not-suc-le-zero l)
 all-at r (x ∷ xs) zero d h l = and-left _ _ h
 all-at r (x ∷ xs) (suc k) d h l = all-at r xs k d (and-right _ _ h) (le-of-suc-le-suc l)
+
+module _ {A : Type 0} (r : A → Bool) where
+  pub all-nil : all r [] ≡ true
+  unfolding all
+  all-nil = refl
+
+  pub all-cons : (x : A) (xs : List A) → r x ≡ true → all r xs ≡ true → all r (x ∷ xs) ≡ true
+  unfolding all
+  all-cons x xs p q = both-true (r x) (all r xs) p q
+
+  pub all-head : (x : A) (xs : List A) → all r (x ∷ xs) ≡ true → r x ≡ true
+  unfolding all
+  all-head x xs h = and-left _ _ h
+
+  pub all-tail : (x : A) (xs : List A) → all r (x ∷ xs) ≡ true → all r xs ≡ true
+  unfolding all
+  all-tail x xs h = and-right _ _ h
+
+  pub all-append : (s t : List A) → all r s ≡ true → all r t ≡ true → all r (s ++ t) ≡ true
+  unfolding all
+  all-append [] t p q = q
+  all-append (y ∷ s) t p q = both-true (r y) (all r (s ++ t)) (and-left _ _ p) (all-append s t (and-right _ _ p) q)

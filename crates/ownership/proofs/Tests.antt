@@ -6,7 +6,7 @@ use Prim.Native.Nat.{ℕ, zero, suc, _+_, _-_, _≤_, _<_}
 use lib.ListN.{length, getD, replicate}
 use lib.Dec.{eqb}
 use borrow.Author.Tests.{eqb-true, leb-true}
-use Rattle.ownership.specs.Bytes.{_and_, _or_, all, zeros}
+use Rattle.ownership.specs.Bytes.{_and_, _or_, blanks, all, zeros}
 
 pub and-left : (a b : Bool) → a and b ≡ true → a ≡ true
 unfolding _and_ _or_
@@ -61,3 +61,8 @@ zeros-are (x ∷ s) e =
     let p : x ≡ 0 = eqb-true x 0 (and-left (eqb x 0) (zeros s) e) in
     let q : s ≡ replicate (length s) 0 = zeros-are s (and-right (eqb x 0) (zeros s) e) in
     cc
+
+pub zeros-blanks : (n : ℕ) → zeros (blanks n) ≡ true
+unfolding all blanks _and_
+zeros-blanks zero = refl
+zeros-blanks (suc n) = zeros-blanks n

@@ -3,6 +3,7 @@
 pub mod blocks;
 pub mod bytes;
 pub mod directory;
+pub mod judge;
 pub mod layout;
 pub mod names;
 pub mod owners;

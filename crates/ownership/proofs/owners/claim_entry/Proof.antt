@@ -1,0 +1,131 @@
+use Rattle.ownership.proofs.Owning.{owned-none, owned-run, owned-chain, run-fits, chain-fits, chain-sound}
+use mathlib.Core.Path.{sym, ap, _∙_}
+use native.Mathlib.Omega.{arith}
+use lib.ListN.{length}
+use denote.Ref.{now}
+use borrow.Author.Tests.{not-true, not-false}
+use Rattle.ownership.proofs.Claiming.{claims-none, claims-then, claims-fails}
+use Rattle.ownership.proofs.Lent.{length-sector}
+use borrow.Author.Needs.{needs}
+use Rattle.ownership.proofs.owners.claim_entry.Statement.{statement}
+use Rattle.ownership.proofs.owners.claim_entry.Tie as tie
+
+unused-requires : tie.Need-unused-requires
+unused-requires c κs = search needs
+
+returns : tie.Need-returns
+returns c = rw (owned-none _ _ (sym (c .before .unused .ensures) ∙ c .if1 .taken)) (claims-none _)
+
+word-at-requires : tie.Need-word-at-requires
+word-at-requires c κs = search needs
+
+contiguous-requires : tie.Need-contiguous-requires
+contiguous-requires c κs = search needs
+
+word-at-requires-2 : tie.Need-word-at-requires-2
+word-at-requires-2 c κs = search needs
+
+claim-run-requires : tie.Need-claim-run-requires
+claim-run-requires c κs =
+    let s = c .before .before .before .before .before .before .before .before .before .before in
+    let img = now (s .args .img) in
+    let e = now (s .args .e) in
+    let u = sym (c .before .before .before .before .before .before .unused .ensures) ∙ c .before .before .before .before .before .if1 .left in
+    let es = c .before .before .before .before .word-at .ensures .0 in
+    let w = sym (c .before .before .before .contiguous .ensures) ∙ c .before .before .if2 .taken in
+    let en = c .before .word-at2 .ensures .0 in
+    (omega arith, (let q = run-fits img e (s .args .t) (s .pre .1) (s .pre .4) u _ _ w es en in omega arith))
+
+same-length : tie.Need-same-length
+same-length c = search needs
+
+returns-2 : tie.Need-returns-2
+returns-2 c =
+    let s = c .before .before .before .before .before .before .before .before .before .before .before .before .before in
+    let img = now (s .args .img) in
+    let e = now (s .args .e) in
+    let u = sym (c .before .before .before .before .before .before .before .before .before .unused .ensures) ∙ c .before .before .before .before .before .before .before .before .if1 .left in
+    let es = c .before .before .before .before .before .before .before .word-at .ensures .0 in
+    let w = sym (c .before .before .before .before .before .before .contiguous .ensures) ∙ c .before .before .before .before .before .if2 .taken in
+    let en = c .before .before .before .before .word-at2 .ensures .0 in
+    rw (owned-run img e _ _ u w es en) (c .before .before .claim-run .ensures)
+
+claim-run-requires-2 : tie.Need-claim-run-requires-2
+claim-run-requires-2 c κs =
+    let s = c .before .before .before .before .before .before .before .before .before in
+    let img = now (s .args .img) in
+    let e = now (s .args .e) in
+    let u = sym (c .before .before .before .before .before .unused .ensures) ∙ c .before .before .before .before .if1 .left in
+    let es = c .before .before .before .word-at .ensures .0 in
+    let w = sym (c .before .before .contiguous .ensures) ∙ c .before .if2 .left in
+    (omega arith, (let q = chain-fits img e (s .args .t) (s .pre .1) (s .pre .4) u _ w es in omega arith))
+
+same-length-2 : tie.Need-same-length-2
+same-length-2 c = search needs
+
+returns-3 : tie.Need-returns-3
+returns-3 c =
+    let s = c .before .before .before .before .before .before .before .before .before .before .before .before .before in
+    let img = now (s .args .img) in
+    let e = now (s .args .e) in
+    let u = sym (c .before .before .before .before .before .before .before .before .before .unused .ensures) ∙ c .before .before .before .before .before .before .before .before .if1 .left in
+    let es = c .before .before .before .before .before .before .before .word-at .ensures .0 in
+    let w = sym (c .before .before .before .before .before .before .contiguous .ensures) ∙ c .before .before .before .before .before .if2 .left in
+    rw (owned-chain img e _ u w es) (claims-fails _ (rw (not-true (c .before .before .before .claim-run2 .result) (c .if3 .taken)) at (c .before .before .before .claim-run2 .ensures)))
+
+sector-of-requires : tie.Need-sector-of-requires
+sector-of-requires c κs =
+    let s = c .before .before .before .before .before .before .before .before .before .before .before .before .before .before in
+    let img = now (s .args .img) in
+    let e = now (s .args .e) in
+    let u = sym (c .before .before .before .before .before .before .before .before .before .before .unused .ensures) ∙ c .before .before .before .before .before .before .before .before .before .if1 .left in
+    let es = c .before .before .before .before .before .before .before .before .word-at .ensures .0 in
+    let w = sym (c .before .before .before .before .before .before .before .contiguous .ensures) ∙ c .before .before .before .before .before .before .if2 .left in
+    let q = chain-fits img e (s .args .t) (s .pre .1) (s .pre .4) u _ w es in
+    omega (arith, s .pre .1)
+
+claim-block-requires : tie.Need-claim-block-requires
+claim-block-requires c κs =
+    let s = c .before .before .before .before .before .before .before .before .before .before .before .before .before .before .before in
+    let img = now (s .args .img) in
+    let e = now (s .args .e) in
+    let u = sym (c .before .before .before .before .before .before .before .before .before .before .before .unused .ensures) ∙ c .before .before .before .before .before .before .before .before .before .before .if1 .left in
+    let es = c .before .before .before .before .before .before .before .before .before .word-at .ensures .0 in
+    let w = sym (c .before .before .before .before .before .before .before .before .contiguous .ensures) ∙ c .before .before .before .before .before .before .before .if2 .left in
+    let q = chain-fits img e (s .args .t) (s .pre .1) (s .pre .4) u _ w es in
+    let g = c .sector-of .ensures in
+    (omega arith, ap length g ∙ length-sector _ img (omega (arith, s .pre .1)), s .pre .2, rw g (chain-sound img e (s .args .t) (s .pre .1) (s .pre .4) u _ w es))
+
+same-length-3 : tie.Need-same-length-3
+same-length-3 c = search needs
+
+returns-4 : tie.Need-returns-4
+returns-4 c =
+    let s = c .before .before .before .before .before .before .before .before .before .before .before .before .before .before .before .before .before .before in
+    let img = now (s .args .img) in
+    let e = now (s .args .e) in
+    let u = sym (c .before .before .before .before .before .before .before .before .before .before .before .before .before .before .unused .ensures) ∙ c .before .before .before .before .before .before .before .before .before .before .before .before .before .if1 .left in
+    let es = c .before .before .before .before .before .before .before .before .before .before .before .before .word-at .ensures .0 in
+    let w = sym (c .before .before .before .before .before .before .before .before .before .before .before .contiguous .ensures) ∙ c .before .before .before .before .before .before .before .before .before .before .if2 .left in
+    rw (owned-chain img e _ u w es)
+    (claims-then (rw (not-false (c .before .before .before .before .before .before .before .before .claim-run2 .result) (c .before .before .before .before .before .if3 .left)) at (c .before .before .before .before .before .before .before .before .claim-run2 .ensures)) (rw (c .before .before .before .sector-of .ensures) at (c .before .before .claim-block .ensures)))
+
+pub claim-entry-spec : {M : Type 1} → statement M
+claim-entry-spec =
+    tie.close
+    (tie.spec
+    unused-requires
+    returns
+    word-at-requires
+    contiguous-requires
+    word-at-requires-2
+    claim-run-requires
+    same-length
+    returns-2
+    claim-run-requires-2
+    same-length-2
+    returns-3
+    sector-of-requires
+    claim-block-requires
+    same-length-3
+    returns-4)
