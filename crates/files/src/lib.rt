@@ -1,1 +1,14 @@
-// Streams, records and what the calls make of an image. The definitions stand in specs/.
+// Layer two: files and records over the sectors of `ownership`. A volume is judged sound or not, of any bytes; a file's records are
+// found, read and replaced across sector borders. Every function is proved equal to a definition of specs/.
+pub mod allocation;
+pub mod appending;
+pub mod check;
+pub mod deletion;
+pub mod encoding;
+pub mod extent;
+pub mod read;
+pub mod record;
+pub mod replace;
+pub mod slot;
+pub mod stream;
+pub mod taking;

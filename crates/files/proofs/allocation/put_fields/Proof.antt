@@ -1,0 +1,59 @@
+use mathlib.Core.Path.{_∙_}
+use native.Mathlib.Omega.{arith}
+use denote.Ref.{now}
+use Rattle.ownership.proofs.Lent.{wrote}
+use Rattle.ownership.proofs.Walks.{over-all}
+use Rattle.files.proofs.Entering.{fields-are}
+use lib.ListN.{length-take, drop}
+use borrow.Author.Needs.{needs}
+use Rattle.files.proofs.allocation.put_fields.Statement.{statement}
+use Rattle.files.proofs.allocation.put_fields.Tie as tie
+use Rattle.files.proofs.allocation.put_fields.Reads as reads
+use Rattle.files.proofs.allocation.put_fields.Lts as lts
+use Rattle.files.proofs.allocation.put_numbers.Reads as put-numbers-reads
+use Rattle.ownership.proofs.bytes.copy_in.Reads as copy-in-reads
+use Rattle.ownership.proofs.bytes.put_word.Reads as put-word-reads
+
+add-put-word : tie.Need-add-put-word
+add-put-word c = search needs
+
+put-word-requires : tie.Need-put-word-requires
+put-word-requires c κs = search needs
+
+sub-copy-in : tie.Need-sub-copy-in
+sub-copy-in c = search needs
+
+part-copy-in-start : tie.Need-part-copy-in-start
+part-copy-in-start c = search needs
+
+part-copy-in-end : tie.Need-part-copy-in-end
+part-copy-in-end c = search needs
+
+copy-in-requires : tie.Need-copy-in-requires
+copy-in-requires c κs = search needs
+
+put-numbers-requires : tie.Need-put-numbers-requires
+put-numbers-requires c κs = search needs
+
+same-length : tie.Need-same-length
+same-length c = search needs
+
+returns : tie.Need-returns
+returns c =
+    let s = c .before .before .before .before .before .before .before .before .before .before .before .before .before .before in
+    let a = s .args in
+    fields-are (now (a .part)) _ _ _ (now (a .desc)) (a .kind) (a .len) (a .s) (a .size) (s .pre .0) (s .pre .1) (s .pre .2) (c .before .before .before .before .before .before .before .before .before .before .put-word .ensures) (wrote 2 22 _ _ (now (a .desc)) (omega arith) (c .before .before .before .before .before .before .copy-in .ensures ∙ over-all _ _ (omega (arith, length-take 20 (drop 2 (c .before .before .before .before .before .before .before .before .before .before .put-word .last .0))))) (omega arith)) (c .before .before .put-numbers .ensures)
+
+pub put-fields-spec : {M : Type 1} → statement M
+put-fields-spec =
+    tie.close
+    (tie.spec
+    add-put-word
+    put-word-requires
+    sub-copy-in
+    part-copy-in-start
+    part-copy-in-end
+    copy-in-requires
+    put-numbers-requires
+    same-length
+    returns)

@@ -1,0 +1,94 @@
+-- The loop's invariant: the entries from k on are sound if all are.
+use mathlib.Core.Path.{_≡_, refl, sym, ap, _∙_}
+use mathlib.Core.Bool.{Bool}
+use mathlib.Core.List.{List, []}
+use Prim.Native.Nat.{ℕ, _-_, _≤_, _<_}
+use native.Mathlib.Omega.{arith}
+use lib.ListN.{length, drop}
+use borrow.Author.Tests.{not-true, not-false}
+use denote.Ref.{now}
+use Rattle.ownership.specs.Bytes.{_and_, all}
+use Rattle.ownership.specs.Directory.{entries, entryAt}
+use Rattle.ownership.proofs.Slots.{length-entries, length-entry}
+use Rattle.ownership.proofs.Walks.{all-more, all-stop, all-end}
+use Rattle.files.specs.Files.{tailSound, recordsSound, sound4}
+use Rattle.files.proofs.Opening.{opens-at}
+use borrow.Author.Needs.{needs}
+use Rattle.files.proofs.check.contents_sound.Statement.{statement}
+use Rattle.files.proofs.check.contents_sound.Tie as tie
+
+abbrev good : List ℕ → List ℕ → Bool
+good img e = tailSound img e and recordsSound img e
+
+abbrev Inv-loop : tie.InvT-loop
+Inv-loop img p n k₀ k = (k ≤ n) × (all (good img) (entries img) ≡ all (good img) (drop k (entries img)))
+
+abbrev μ-loop : tie.MeasureT-loop
+μ-loop img p n k₀ k = n - k
+
+mul-n : tie.Need-mul-n Inv-loop μ-loop
+mul-n c = search needs
+
+loop-holds : tie.Need-loop-holds Inv-loop μ-loop
+loop-holds c = (omega arith, refl)
+
+entry-of-requires : tie.Need-entry-of-requires Inv-loop μ-loop
+entry-of-requires c κs = search needs
+
+file-sound-requires : tie.Need-file-sound-requires Inv-loop μ-loop
+file-sound-requires c κs =
+    let s = c .before .before .before .before .before in
+    let img = now (s .args .img) in
+    let k = c .before .before .loop .k in
+    let q = c .entry-of .ensures in
+    (ap length q ∙ length-entry _ _ (s .pre .0) k (omega arith), λ u v. rw q (opens-at img _ (s .pre .0) (s .pre .1) (s .pre .2) k (omega arith) (rw q at u) (rw q at v)))
+
+returns : tie.Need-returns Inv-loop μ-loop
+unfolding entryAt sound4
+returns c =
+    let s = c .before .before .before .before .before .before .before in
+    let l = c .before .before .before .before .loop in
+    let img = now (s .args .img) in
+    let n : l .k < length (entries img) = omega (arith, length-entries img, s .pre .0 .is-dirs) in
+    let q = ap (good img) (c .before .before .entry-of .ensures) in
+    sym (l .inv .1 ∙ all-stop (good img) (entries img) [] (l .k) n (sym q ∙ sym (c .before .file-sound .ensures) ∙ not-true _ (c .if1 .taken)))
+
+add-k : tie.Need-add-k Inv-loop μ-loop
+add-k c = search needs
+
+loop-less : tie.Need-loop-less Inv-loop μ-loop
+loop-less c = omega arith
+
+loop-again : tie.Need-loop-again Inv-loop μ-loop
+unfolding entryAt
+loop-again c =
+    let s = c .before .before .before .before .before .before .before in
+    let l = c .before .before .before .before .loop in
+    let img = now (s .args .img) in
+    let n : l .k < length (entries img) = omega (arith, length-entries img, s .pre .0 .is-dirs) in
+    let q = ap (good img) (c .before .before .entry-of .ensures) in
+    (omega arith, l .inv .1 ∙ all-more (good img) (entries img) [] (l .k) n (sym q ∙ sym (c .before .file-sound .ensures) ∙ not-false _ (c .if1 .left)))
+
+returns-2 : tie.Need-returns-2 Inv-loop μ-loop
+unfolding sound4
+returns-2 c =
+    let s = c .before .before .before .before in
+    let l = c .before .loop in
+    let img = now (s .args .img) in
+    sym (l .inv .1 ∙ all-end (good img) (entries img) (l .k) (omega (arith, length-entries img, s .pre .0 .is-dirs)))
+
+pub contents-sound-spec : {M : Type 1} → statement M
+contents-sound-spec =
+    tie.close
+    (tie.spec
+    Inv-loop
+    μ-loop
+    mul-n
+    loop-holds
+    entry-of-requires
+    file-sound-requires
+    returns
+    add-k
+    loop-less
+    loop-again
+    returns-2)

@@ -1,0 +1,18 @@
+use borrow.Author.Tests.{eq-eqb, ne-eqb}
+use borrow.Author.Needs.{needs}
+use Rattle.files.proofs.taking.one_more.Statement.{statement}
+use Rattle.files.proofs.taking.one_more.Tie as tie
+use Rattle.files.proofs.taking.one_more.Reads as reads
+use Rattle.files.proofs.taking.one_more.Lts as lts
+
+returns : tie.Need-returns
+returns c = rw (eq-eqb _ _ (c .if1 .taken))
+
+add-result : tie.Need-add-result
+add-result c = search needs
+
+returns-2 : tie.Need-returns-2
+returns-2 c = rw (ne-eqb _ _ (c .if1 .left))
+
+pub one-more-spec : {M : Type 1} → statement M
+one-more-spec = tie.close (tie.spec returns add-result returns-2)

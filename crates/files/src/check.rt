@@ -1,0 +1,140 @@
+// A volume judged: what points 3 and 4 of soundness say of stream bytes, and the verdict as a whole.
+use crate::record::Counted;
+use crate::record::walk;
+use crate::stream::load_map;
+use crate::stream::stream_byte;
+use crate::stream::stream_end;
+use ownership::bytes::word_at;
+use ownership::directory::contiguous;
+use ownership::directory::entry_of;
+use ownership::directory::unused;
+use ownership::judge::Judged;
+use ownership::judge::judge;
+use ownership::owners::free_sectors;
+use ownership::volume::Places;
+use ownership::volume::Where;
+ghost use mathlib.Core.Path.{_≡_};
+ghost use mathlib.Core.Bool.{true, false};
+ghost use Prim.Native.Nat.{_*_, _≤_, _<_};
+ghost use lib.ListN.{length, drop};
+ghost use Rattle.ownership.specs.Bytes.{_and_, sector, zeros, distinct};
+ghost use Rattle.ownership.specs.Places.{Located};
+ghost use Rattle.ownership.specs.Directory.{unused, contiguous, start};
+ghost use Rattle.ownership.specs.Blocks.{streamLength, sound3};
+ghost use Rattle.ownership.specs.Owners.{allOwned};
+ghost use Rattle.files.specs.Records.{wholeRecords};
+ghost use Rattle.files.specs.Files.{laidOut, tailSound, recordsSound, sound4};
+ghost use Rattle.files.specs.Streams.{Mapped, Opens, streamIn, storedAt, streamAt};
+ghost use Rattle.files.specs.Spots.{wholeOf};
+ghost use Rattle.files.specs.Verdict.{soundAt, checkedOf};
+
+/// Sound or not, and the number of free sectors, 0 if not sound.
+pub struct Checked {
+    pub sound: bool,
+    pub free: usize,
+}
+
+fn is_whole(c: Counted) -> bool
+    ensures { λ r. ⌜ r ≡ wholeOf c ⌝ }
+{
+    match c {
+        Counted::Whole(_) => true,
+        Counted::Broken => false,
+    }
+}
+
+// The stream's bytes from e on, fewer than a sector's.
+fn tail_zero(img: &[u8], map: &[u16], e: usize) -> bool
+    requires { ⌜ Mapped (now img) (now map) × (e ≤ 256 * length (now map)) ⌝ }
+    ensures { λ r. ⌜ r ≡ zeros (drop e (laidOut (now (img .entry)) (now (map .entry)))) ⌝ }
+{
+    let end = 256 * map.len();
+    let mut p = e;
+    while p < end {
+        if stream_byte(img, map, p) != 0 {
+            return false;
+        }
+        p += 1;
+    }
+    true
+}
+
+fn content_sound(img: &[u8], map: &[u16], l: usize, e: usize) -> bool
+    requires { ⌜ Mapped (now img) (now map) × (e ≤ 256 * length (now map)) ⌝ }
+    ensures { λ r. ⌜ r ≡ zeros (drop e (laidOut (now (img .entry)) (now (map .entry)))) and wholeRecords l (streamIn (now (img .entry)) (now (map .entry)) e) ⌝ }
+{
+    if tail_zero(img, map, e) {
+        return is_whole(walk(img, map, l, e));
+    }
+    false
+}
+
+// The file of the access block in sector s, with records of length l.
+fn stream_sound(img: &[u8], s: usize, l: usize) -> bool
+    requires { ⌜ Opens (now img) s ⌝ }
+    ensures { λ r. ⌜ r ≡ zeros (drop (streamLength (sector s (now (img .entry)))) (storedAt (now (img .entry)) s)) and wholeRecords l (streamAt (now (img .entry)) s) ⌝ }
+{
+    let mut map = [0u16; 2048];
+    let n = load_map(img, s, &mut map);
+    let e = stream_end(img, s);
+    content_sound(img, &map[..n], l, e)
+}
+
+/// Are the tail and the records of an entry's file sound?
+pub fn file_sound(img: &[u8], e: &[u8]) -> bool
+    requires { ⌜ (length (now e) ≡ 32) × (unused (now e) ≡ false → contiguous (now e) ≡ false → Opens (now img) (start (now e))) ⌝ }
+    ensures { λ r. ⌜ r ≡ tailSound (now (img .entry)) (now (e .entry)) and recordsSound (now (img .entry)) (now (e .entry)) ⌝ }
+{
+    if unused(e) {
+        return true;
+    }
+    if contiguous(e) {
+        return true;
+    }
+    stream_sound(img, word_at(e, 26), word_at(e, 24))
+}
+
+/// Are all files' tails and records sound?
+pub fn contents_sound(img: &[u8], p: Places) -> bool
+    requires { ⌜ Located (now img) p × (sound3 (now img) ≡ true) × (distinct (allOwned (now img)) ≡ true) ⌝ }
+    ensures { λ r. ⌜ r ≡ sound4 (now (img .entry)) ⌝ }
+{
+    let n = 8 * p.dirs;
+    let mut k = 0;
+    while k < n {
+        if !file_sound(img, entry_of(img, p, k)) {
+            return false;
+        }
+        k += 1;
+    }
+    true
+}
+
+/// The places of a sound volume, found in any bytes. Streams come last: they are walked by maps that hold no sector twice.
+pub fn locate_sound(img: &[u8]) -> Where
+    ensures { λ r. ⌜ r ≡ soundAt (now (img .entry)) ⌝ }
+{
+    let verdict = judge(img);
+    let Judged::Sound(p) = verdict else {
+        return Where::Nowhere;
+    };
+    if contents_sound(img, p) {
+        return Where::At(p);
+    }
+    Where::Nowhere
+}
+
+/// Judges any bytes of any length.
+pub fn check(img: &[u8]) -> Checked
+    ensures { λ r. ⌜ r ≡ checkedOf (now (img .entry)) ⌝ }
+{
+    let found = locate_sound(img);
+    let Where::At(p) = found else {
+        return Checked {
+            sound: false,
+            free: 0,
+        };
+    };
+    let free = free_sectors(img, p);
+    Checked { sound: true, free }
+}

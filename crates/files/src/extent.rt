@@ -1,0 +1,75 @@
+// How far a file goes, and where its records are, by its directory slot.
+use crate::record::Counted;
+use crate::record::Spot;
+use crate::record::find_record;
+use crate::record::walk;
+use crate::slot::is_contiguous;
+use crate::slot::record_length;
+use crate::slot::sectors_in;
+use crate::slot::start_of;
+use crate::stream::load_map;
+use crate::stream::stream_end;
+use ownership::volume::Places;
+ghost use mathlib.Core.Path.{_≡_};
+ghost use mathlib.Core.Bool.{true, false};
+ghost use Prim.Native.Nat.{_≤_};
+ghost use lib.ListN.{length};
+ghost use Rattle.ownership.specs.Numbers.{recordLimit};
+ghost use Rattle.ownership.specs.Directory.{entryAt, contiguous, recordLength};
+ghost use Rattle.files.specs.Records.{wholeRecords, recordsOf};
+ghost use Rattle.files.specs.Files.{stream, extent};
+ghost use Rattle.files.specs.Streams.{Opens, streamAt};
+ghost use Rattle.files.specs.Spots.{spotOf, countOf};
+ghost use Rattle.files.specs.Slots.{InUse};
+
+fn count_of(c: Counted) -> usize
+    ensures { λ r. ⌜ r ≡ countOf c ⌝ }
+{
+    match c {
+        Counted::Whole(n) => n,
+        Counted::Broken => 0,
+    }
+}
+
+// The records of length l in the stream of the access block in sector s. Fixed ones are counted without a walk.
+fn count_stream(img: &[u8], s: usize, l: usize) -> usize
+    requires { ⌜ Opens (now img) s × (wholeRecords l (streamAt (now img) s) ≡ true) ⌝ }
+    ensures { λ r. ⌜ r ≡ length (recordsOf l (streamAt (now (img .entry)) s)) ⌝ }
+{
+    let e = stream_end(img, s);
+    if l != 0 {
+        return e / l;
+    }
+    let mut map = [0u16; 2048];
+    let n = load_map(img, s, &mut map);
+    count_of(walk(img, &map[..n], l, e))
+}
+
+fn find_stream(img: &[u8], s: usize, l: usize, i: usize) -> Spot
+    requires { ⌜ Opens (now img) s × (l ≤ recordLimit) × (wholeRecords l (streamAt (now img) s) ≡ true) ⌝ }
+    ensures { λ r. ⌜ r ≡ spotOf l (streamAt (now (img .entry)) s) i ⌝ }
+{
+    let e = stream_end(img, s);
+    let mut map = [0u16; 2048];
+    let n = load_map(img, s, &mut map);
+    find_record(img, &map[..n], l, e, i)
+}
+
+/// How far the file in slot k goes: in sectors if contiguous, in records if sequential.
+pub fn extent_of(img: &[u8], p: Places, k: usize) -> usize
+    requires { ⌜ InUse (now img) p k ⌝ }
+    ensures { λ r. ⌜ r ≡ extent (now (img .entry)) (entryAt (now (img .entry)) k) ⌝ }
+{
+    if is_contiguous(img, p, k) {
+        return sectors_in(img, p, k);
+    }
+    count_stream(img, start_of(img, p, k), record_length(img, p, k))
+}
+
+/// Where in its stream the data of record i of the sequential file in slot k lies.
+pub fn record_of(img: &[u8], p: Places, k: usize, i: usize) -> Spot
+    requires { ⌜ InUse (now img) p k × (contiguous (entryAt (now img) k) ≡ false) ⌝ }
+    ensures { λ r. ⌜ r ≡ spotOf (recordLength (entryAt (now (img .entry)) k)) (stream (now (img .entry)) (entryAt (now (img .entry)) k)) i ⌝ }
+{
+    find_stream(img, start_of(img, p, k), record_length(img, p, k), i)
+}
