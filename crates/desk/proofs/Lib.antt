@@ -1,1 +1,13 @@
+pub mod Arrays
+pub mod Held
+pub mod Gates
+pub mod FitLaws
+pub mod RestLaws
+pub mod Bounds
+pub mod FindLaws
+pub mod ReadLaws
+pub mod WriteLaws
+pub mod UpdateLaws
 pub mod Vectors
+pub mod Desks
+pub mod RestFiles

@@ -3,3 +3,8 @@ pub mod Desk
 pub mod Answers
 pub mod Calls
 pub mod Transfers
+pub mod Ready
+pub mod Fits
+pub mod Rest
+pub mod RestFiles
+pub mod RestWrite

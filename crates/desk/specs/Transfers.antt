@@ -17,7 +17,7 @@ use Rattle.desk.specs.declared.Refusal.the-variants.{BadLun, BadRequest,
 use Rattle.desk.specs.declared.Answer.the-variants.{Done}
 use Rattle.desk.specs.Modes.{reads, writes}
 use Rattle.desk.specs.Desk.{lunAt, putLun, movedTo, target, placeless, ready, mine}
-use Rattle.desk.specs.Answers.{Outcome, outcome, judged, _if_}
+use Rattle.desk.specs.Answers.{Outcome, Rule, outcome, judged, _if_}
 
 -- the entry of the file that a LUN holds, and the record or sector that a selector names there
 unfoldable pub fileOf : List ℕ → Desk → ℕ → List ℕ
@@ -56,18 +56,23 @@ units e m = if contiguous e then m / 256 else 1
 unfoldable pub hasRead : List ℕ → Desk → ℕ → List ℕ → ℕ → List ℕ → List ℕ → Outcome
 hasRead img d lun e i bs buf = outcome (Done (length bs)) img (after d lun i (units e (length bs))) (over bs buf)
 
-unfoldable pub read : List ℕ → Desk → ℕ → ℕ → ℕ → ℕ → List ℕ → Outcome
-read img d caller lun sel num buf =
+abbrev pub readRules : List ℕ → Desk → ℕ → ℕ → ℕ → ℕ → List ℕ → List Rule
+readRules img d caller lun sel num buf =
     let e = fileOf img d lun in
     let i = aimed d lun sel num in
-    judged
-    (NotSound if not (ready img d)
+    NotSound if not (ready img d)
     ∷ BadLun if not (mine d caller lun)
     ∷ BadRequest if (not (reads (lunAt d lun .mode)) or placeless sel (lunAt d lun .place))
     ∷ BadLength if (contiguous e and oddLength (length buf))
     ∷ PastEnd if ended img e i
     ∷ BadLength if (not (contiguous e) and ltb (length buf) (length (recordAt img e i)))
-    ∷ [])
+    ∷ []
+
+unfoldable pub read : List ℕ → Desk → ℕ → ℕ → ℕ → ℕ → List ℕ → Outcome
+read img d caller lun sel num buf =
+    let e = fileOf img d lun in
+    let i = aimed d lun sel num in
+    judged (readRules img d caller lun sel num buf)
     img d buf (hasRead img d lun e i (dataAt img e i (length buf)) buf)
 
 -- "a contiguous write that would cross it; a sequential write to a number above the record count"
@@ -80,12 +85,11 @@ written e i bs img = if contiguous e then overwritten e i bs img else appended e
 unfoldable pub hasWritten : List ℕ → Desk → ℕ → List ℕ → ℕ → List ℕ → Outcome
 hasWritten img d lun e i bs = outcome (Done (length bs)) img (after d lun i (units e (length bs))) bs
 
-unfoldable pub write : List ℕ → Desk → ℕ → ℕ → ℕ → ℕ → List ℕ → Outcome
-write img d caller lun sel num bs =
+abbrev pub writeRules : List ℕ → Desk → ℕ → ℕ → ℕ → ℕ → List ℕ → List Rule
+writeRules img d caller lun sel num bs =
     let e = fileOf img d lun in
     let i = aimed d lun sel num in
-    judged
-    (NotSound if not (ready img d)
+    NotSound if not (ready img d)
     ∷ BadLun if not (mine d caller lun)
     ∷ BadRequest if (not (writes (lunAt d lun .mode)) or placeless sel (lunAt d lun .place))
     ∷ BadLength if wrongLength e bs
@@ -93,21 +97,32 @@ write img d caller lun sel num bs =
     ∷ Exists if (not (contiguous e) and ltb i (extent img e))
     ∷ NoRoom if (not (contiguous e) and ltb (free img) (needed img e bs))
     ∷ NoSegment if (not (contiguous e) and ltb mostSegments (length (newPairs img e bs)))
-    ∷ [])
-    img d bs (hasWritten (written e i bs img) d lun e i bs)
+    ∷ []
 
-unfoldable pub update : List ℕ → Desk → ℕ → ℕ → ℕ → ℕ → List ℕ → Outcome
-update img d caller lun sel num bs =
+unfoldable pub write : List ℕ → Desk → ℕ → ℕ → ℕ → ℕ → List ℕ → Outcome
+write img d caller lun sel num bs =
     let e = fileOf img d lun in
     let i = aimed d lun sel num in
-    judged
-    (NotSound if not (ready img d)
+    judged (writeRules img d caller lun sel num bs)
+    img d bs (hasWritten (written e i bs img) d lun e i bs)
+
+abbrev pub updateRules : List ℕ → Desk → ℕ → ℕ → ℕ → ℕ → List ℕ → List Rule
+updateRules img d caller lun sel num bs =
+    let e = fileOf img d lun in
+    let i = aimed d lun sel num in
+    NotSound if not (ready img d)
     ∷ BadLun if not (mine d caller lun)
     ∷ BadRequest if (not (writes (lunAt d lun .mode)) or placeless sel (lunAt d lun .place) or contiguous e)
     ∷ BadLength if wrongLength e bs
     ∷ PastEnd if ended img e i
     ∷ OtherLength if not (eqb (length bs) (length (recordAt img e i)))
-    ∷ [])
+    ∷ []
+
+unfoldable pub update : List ℕ → Desk → ℕ → ℕ → ℕ → ℕ → List ℕ → Outcome
+update img d caller lun sel num bs =
+    let e = fileOf img d lun in
+    let i = aimed d lun sel num in
+    judged (updateRules img d caller lun sel num bs)
     img d bs (hasWritten (updated e i bs img) d lun e i bs)
 
 unfoldable pub transfers-open : Unit {0}

@@ -1,6 +1,22 @@
 // The desk: sixteen logical units (LUNs), each free or holding a user, a directory slot, a mode and a place; and the answers
 // of the calls. What each call does in every case stands in specs/.
 
+pub mod allocating;
+pub mod assigning;
+pub mod closing;
+pub mod deleting;
+pub mod fits;
+pub mod lengths;
+pub mod luns;
+pub mod modes;
+pub mod places;
+pub mod reading;
+pub mod ready;
+pub mod replies;
+pub mod updating;
+pub mod volumes;
+pub mod writing;
+
 /// The access permissions, by their house numbers 0 to 7: P is public, E exclusive.
 pub enum Mode {
     Pr,
@@ -59,4 +75,10 @@ pub enum Answer {
     Done(u32),
     Checked { sound: bool, free: u32 },
     Refused(Refusal),
+}
+
+/// What every call hands back: its answer, and the desk after it.
+pub struct Reply {
+    pub answer: Answer,
+    pub desk: Desk,
 }

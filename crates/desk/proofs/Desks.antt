@@ -1,0 +1,196 @@
+-- A desk with one LUN replaced: whether its assignments still agree, and still fit a volume.
+use mathlib.Core.Path.{_≡_, refl, ap, sym, _∙_}
+use mathlib.Core.Bool.{Bool, true, false, not, true≢false}
+use mathlib.Core.List.{List, [], _∷_}
+use Prim.Native.Nat.{ℕ, zero, suc, _+_, _≤_, _<_}
+use native.Mathlib.Omega.{arith}
+use lib.ListN.{length, getD, set, length-set}
+use lib.Dec.{eqb, leb, ltb}
+use borrow.Author.Tests.{eqb-true, eq-eqb, leb-true, le-leb, ltb-true, lt-ltb, not-true}
+use Rattle.ownership.specs.Numbers.{luns, lastUser, mostMoved}
+use Rattle.ownership.specs.Bytes.{_and_, _or_, if_then_else_, all, some}
+use Rattle.ownership.specs.Directory.{entryAt, unused, contiguous, owner}
+use Rattle.ownership.proofs.Tests.{and-left, and-right, both-true, or-left, or-right, or-first, or-second, or-cases, is-false}
+use Rattle.ownership.proofs.Lists.{all-ext, all-at, all-nil, all-cons, all-head, all-tail}
+use Rattle.ownership.proofs.Entries.{all-set}
+use Rattle.files.specs.Files.{extent, sound}
+use Rattle.desk.specs.declared.Mode.{Mode}
+use Rattle.desk.specs.declared.Place.{Place}
+use Rattle.desk.specs.declared.Place.the-variants.{Fresh, At}
+use Rattle.desk.specs.declared.Lun.{Lun}
+use Rattle.desk.specs.declared.Desk.{Desk}
+use Rattle.desk.specs.Modes.{writes, shutsOut, compatible}
+use Rattle.desk.specs.Desk.{freeLun, lunAt, putLun, movedTo, hasRight, agree, allAgree, placeExists, lunFits, fits, ready, holdsSlot, isHeld}
+
+-- `agree` does not look at the place, is symmetric, and holds of a free LUN
+pub agree-moved : (p : Place) (u v : Lun) → agree (movedTo p u) v ≡ agree u v
+unfolding agree movedTo
+agree-moved p u v = refl
+
+pub agree-with-moved : (p : Place) (u v : Lun) → agree v (movedTo p u) ≡ agree v u
+unfolding agree movedTo
+agree-with-moved p u v = refl
+
+or-swap : (a b : Bool) → a or b ≡ b or a
+unfolding _or_
+or-swap true true = refl
+or-swap true false = refl
+or-swap false true = refl
+or-swap false false = refl
+
+pub compatible-symmetric : (a b : Mode) → compatible a b ≡ compatible b a
+unfolding compatible
+compatible-symmetric a b = ap not (or-swap (shutsOut a b) (shutsOut b a))
+
+and-swap : (a b c d : Bool) → c ≡ d → a and b and c ≡ b and a and d
+unfolding _and_
+and-swap true true c d e = e
+and-swap true false c d e = refl
+and-swap false true c d e = refl
+and-swap false false c d e = refl
+
+eqb-swap : (a b : ℕ) → eqb a b ≡ eqb b a
+eqb-swap a b = go (eqb a b) (eqb b a) refl refl
+  where
+    go : (p q : Bool) → eqb a b ≡ p → eqb b a ≡ q → p ≡ q
+    go true true x y = refl
+    go true false x y = sym (eq-eqb b a (sym (eqb-true a b x))) ∙ y
+    go false true x y = sym x ∙ eq-eqb a b (sym (eqb-true b a y))
+    go false false x y = refl
+
+pub agree-symmetric : (u v : Lun) → agree u v ≡ agree v u
+unfolding agree
+agree-symmetric u v = rw (and-swap (u .held) (v .held) (eqb (u .slot) (v .slot)) (eqb (v .slot) (u .slot)) (eqb-swap (u .slot) (v .slot)), compatible-symmetric (u .mode) (v .mode))
+
+pub agree-free : (u v : Lun) → u .held ≡ false → agree u v ≡ true
+unfolding agree _and_ _or_
+agree-free u v h = rw h
+
+pub all-agree-free : (u : Lun) (us : List Lun) → u .held ≡ false → all (agree u) us ≡ true
+unfolding all
+all-agree-free u [] h = refl
+all-agree-free u (v ∷ us) h = both-true _ _ (agree-free u v h) (all-agree-free u us h)
+
+-- a LUN that agrees with all of them in the place of one
+pub agree-set : (us : List Lun) (k : ℕ) (u : Lun) → all (agree u) us ≡ true → allAgree us ≡ true → allAgree (set us k u) ≡ true
+unfolding allAgree all
+agree-set [] k u a h = refl
+agree-set (v ∷ us) zero u a h = both-true _ _ (and-right _ _ a) (and-right _ _ h)
+agree-set (v ∷ us) (suc k) u a h =
+    both-true _ _ (all-set (agree v) us k u (and-left _ _ h) (agree-symmetric v u ∙ and-left _ _ a)) (agree-set us k u (and-right _ _ a) (and-right _ _ h))
+
+-- the same LUN at another place
+all-moved : (w : Lun) (us : List Lun) (k : ℕ) (p : Place) (d : Lun) → k < length us → all (agree w) us ≡ true → all (agree w) (set us k (movedTo p (getD us k d))) ≡ true
+unfolding all
+all-moved w [] k p d l h = absurd (omega arith)
+all-moved w (v ∷ us) zero p d l h = both-true _ _ (agree-with-moved p v w ∙ and-left _ _ h) (and-right _ _ h)
+all-moved w (v ∷ us) (suc k) p d l h = both-true _ _ (and-left _ _ h) (all-moved w us k p d (omega arith) (and-right _ _ h))
+
+all-from-moved : (p : Place) (u : Lun) (us : List Lun) → all (agree u) us ≡ true → all (agree (movedTo p u)) us ≡ true
+unfolding all
+all-from-moved p u [] h = refl
+all-from-moved p u (v ∷ us) h = both-true _ _ (agree-moved p u v ∙ and-left _ _ h) (all-from-moved p u us (and-right _ _ h))
+
+pub agree-set-moved : (us : List Lun) (k : ℕ) (p : Place) (d : Lun) → k < length us → allAgree us ≡ true → allAgree (set us k (movedTo p (getD us k d))) ≡ true
+unfolding allAgree
+agree-set-moved [] k p d l h = absurd (omega arith)
+agree-set-moved (v ∷ us) zero p d l h = both-true _ _ (all-from-moved p v us (and-left _ _ h)) (and-right _ _ h)
+agree-set-moved (v ∷ us) (suc k) p d l h = both-true _ _ (all-moved v us k p d (omega arith) (and-left _ _ h)) (agree-set-moved us k p d (omega arith) (and-right _ _ h))
+
+-- What fitting says of one held LUN
+pub record Fits (img : List ℕ) (u : Lun) : Type 0 where
+  pub used : unused (entryAt img (u .slot)) ≡ false
+  pub user-in : u .user ≤ lastUser
+  pub right : not (writes (u .mode)) or hasRight (u .user) (owner (entryAt img (u .slot))) ≡ true
+  pub place : placeExists img (entryAt img (u .slot)) (u .place) ≡ true
+
+pub lun-fits : (img : List ℕ) (u : Lun) → u .held ≡ true → lunFits img u ≡ true → Fits img u
+unfolding lunFits _or_
+lun-fits img u h f =
+    let g = rw h at f in
+    let a = and-left _ _ g in
+    let b = and-left _ _ a in
+    record {
+      used = not-true _ (and-left _ _ b);
+      user-in = leb-true _ _ (and-right _ _ b);
+      right = and-right _ _ a;
+      place = and-right _ _ g;
+    }
+
+pub fits-lun : (img : List ℕ) (u : Lun) → (u .held ≡ true → Fits img u) → lunFits img u ≡ true
+unfolding lunFits
+fits-lun img u f = go (u .held) refl
+  where
+    go : (b : Bool) → u .held ≡ b → lunFits img u ≡ true
+    go true h = or-second _ _ (let g = f h in both-true _ _ (both-true _ _ (both-true _ _ (ap not (g .used)) (le-leb _ _ (g .user-in))) (g .right)) (g .place))
+    go false h = or-first _ _ (ap not h)
+
+-- A place that exists goes on existing where the file is as long or longer
+pub place-longer : (v v′ e : List ℕ) (p : Place) → extent v e ≤ extent v′ e → placeExists v e p ≡ true → placeExists v′ e p ≡ true
+unfolding placeExists
+place-longer v v′ e Fresh l h = refl
+place-longer v v′ e (At i n) l h = go (contiguous e) refl
+  where
+    go : (b : Bool) → contiguous e ≡ b → placeExists v′ e (At i n) ≡ true
+    go true q =
+        let g : leb 1 n and leb n mostMoved and leb (i + n) (extent v e) ≡ true = rw q at h in
+        let m : i + n ≤ extent v e = leb-true _ _ (and-right _ _ g) in
+        rw q (both-true _ _ (and-left _ _ g) (le-leb (i + n) (extent v′ e) (omega arith)))
+    go false q =
+        let g : eqb n 1 and ltb i (extent v e) ≡ true = rw q at h in
+        let m : i < extent v e = ltb-true _ _ (and-right _ _ g) in
+        rw q (both-true _ _ (and-left _ _ g) (lt-ltb i (extent v′ e) (omega arith)))
+
+-- What fitting says of a desk
+pub record Fitting (img : List ℕ) (d : Desk) : Type 0 where
+  pub sixteen : length (d .luns) ≡ luns
+  pub each : all (lunFits img) (d .luns) ≡ true
+  pub agreed : allAgree (d .luns) ≡ true
+
+pub fitting : (img : List ℕ) (d : Desk) → fits img d ≡ true → Fitting img d
+unfolding fits
+fitting img d h = record { sixteen = eqb-true _ _ (and-left _ _ (and-left _ _ h)); each = and-right _ _ (and-left _ _ h); agreed = and-right _ _ h }
+
+pub fits-is : (img : List ℕ) (d : Desk) → Fitting img d → fits img d ≡ true
+unfolding fits
+fits-is img d f = both-true _ _ (both-true _ _ (eq-eqb _ _ (f .sixteen)) (f .each)) (f .agreed)
+
+-- where each held LUN's file has the same entry, and is as long or longer, the desk still fits; c may say more of the LUNs
+pub fits-kept : (v v′ : List ℕ) (d : Desk) (c : Lun → Bool) → all c (d .luns) ≡ true
+    → ((u : Lun) → u .held ≡ true → c u ≡ true → Fits v u → (entryAt v′ (u .slot) ≡ entryAt v (u .slot)) × (extent v (entryAt v (u .slot)) ≤ extent v′ (entryAt v (u .slot))))
+    → Fitting v d → Fitting v′ d
+fits-kept v v′ d c hc g f = record {
+  sixteen = f .sixteen;
+  each = all-ext c (lunFits v) (lunFits v′) (d .luns) (λ u cu fu. fits-lun v′ u (λ h.
+      let o = lun-fits v u h fu in
+      let k = g u h cu o in
+      record {
+        used = rw (k .0) (o .used);
+        user-in = o .user-in;
+        right = rw (k .0) (o .right);
+        place = rw (k .0) (place-longer v v′ (entryAt v (u .slot)) (u .place) (k .1) (o .place));
+      })) hc (f .each);
+  agreed = f .agreed;
+}
+
+-- one LUN replaced
+pub fits-put : (v : List ℕ) (d : Desk) (k : ℕ) (u : Lun) → lunFits v u ≡ true → allAgree (set (d .luns) k u) ≡ true → Fitting v d → Fitting v (putLun d k u)
+unfolding putLun
+fits-put v d k u h a f = record {
+  sixteen = length-set (d .luns) k u ∙ f .sixteen;
+  each = all-set (lunFits v) (d .luns) k u (f .each) h;
+  agreed = a;
+}
+
+moved-fits : (v : List ℕ) (p : Place) (u : Lun) → Fits v u → placeExists v (entryAt v (u .slot)) p ≡ true → Fits v (movedTo p u)
+unfolding movedTo
+moved-fits v p u o x = record { used = o .used; user-in = o .user-in; right = o .right; place = x }
+
+-- the LUN at k, held, moved to a place that exists
+pub fits-moved : (v : List ℕ) (d : Desk) (k : ℕ) (p : Place) → k < luns → lunAt d k .held ≡ true → placeExists v (entryAt v (lunAt d k .slot)) p ≡ true → Fitting v d
+    → Fitting v (putLun d k (movedTo p (lunAt d k)))
+unfolding lunAt
+fits-moved v d k p l h x f =
+    let m : k < length (d .luns) = omega (arith, f .sixteen) in
+    let o = lun-fits v (lunAt d k) h (all-at (lunFits v) (d .luns) k freeLun (f .each) m) in
+    fits-put v d k (movedTo p (lunAt d k)) (fits-lun v (movedTo p (lunAt d k)) (λ q. moved-fits v p (lunAt d k) o x)) (agree-set-moved (d .luns) k p freeLun m (f .agreed)) f
