@@ -1,14 +1,14 @@
 -- The (D) steps of "A small volume, followed through": one computed list, one statement.
 use mathlib.Core.Path.{_≡_, refl}
-use mathlib.Core.Bool.{Bool, true, false}
+use mathlib.Core.Bool.{false}
 use mathlib.Core.List.{List, [], _∷_, _++_}
 use Prim.Native.Nat.{ℕ}
-use lib.ListN.{length, take, drop, replicate, getD}
-use Rattle.ownership.specs.Bytes.{if_then_else_, same, flat, bytes-open}
+use lib.ListN.{take, drop, replicate, getD}
+use Rattle.ownership.specs.Bytes.{same, flat, bytes-open}
 use Rattle.ownership.specs.Names.{names-open}
 use Rattle.ownership.specs.Volume.{trailer, sat, volume-open}
 use Rattle.ownership.specs.Directory.{entryAt, start, directory-open}
-use Rattle.ownership.specs.Blocks.{block, pairs, segments, streamLength, blocks-open}
+use Rattle.ownership.specs.Blocks.{block, pairs, streamLength, blocks-open}
 use Rattle.ownership.specs.Owners.{logical, one, owners-open}
 use Rattle.ownership.specs.Free.{free, free-open}
 use Rattle.files.specs.Records.{records-open}

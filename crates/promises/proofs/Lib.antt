@@ -1,0 +1,12 @@
+pub mod Answers
+pub mod Held
+pub mod Reading
+pub mod Writing
+pub mod Names
+pub mod Kept
+pub mod Good
+pub mod Sectors
+pub mod Others
+pub mod Contents
+pub mod Lasting
+pub mod ReadBack

@@ -1,0 +1,48 @@
+-- Demand 1, and the refusals of demand 2.
+use mathlib.Core.Path.{_≡_}
+use mathlib.Core.Bool.{true, false}
+use mathlib.Core.List.{List, [], _∷_}
+use mathlib.Core.Logic.{_↔_}
+use Prim.Native.Nat.{ℕ, _<_}
+use lib.ListN.{length, getD}
+use Rattle.ownership.specs.Bytes.{among}
+use Rattle.desk.specs.declared.Refusal.{Refusal}
+use Rattle.desk.specs.declared.Refusal.the-variants.{NotSound}
+use Rattle.desk.specs.declared.Answer.the-variants.{Refused}
+use Rattle.desk.specs.Answers.{Outcome, Rule, _if_, status, moved}
+use Rattle.promises.specs.Calls.{Call, State, step, rules, given}
+
+-- the numbers of the status table
+unfoldable pub table : List ℕ
+table =
+    0x00 ∷ 0x02 ∷ 0x03 ∷ 0x0B ∷ 0x0D ∷ 0x17 ∷ 0x82 ∷ 0x84 ∷ 0xC2 ∷ 0x60 ∷ 0x61 ∷ 0x62 ∷ 0x63 ∷ 0x64 ∷ 0x65 ∷ 0x66 ∷ 0x67 ∷ 0x6F ∷ []
+
+-- Demand 1: "Any image, any request, any length: every call ends with an answer from the status table."
+abbrev pub InTable : Type 0
+InTable = (c : Call) (s : State) → among (status (step c s .answer)) table ≡ true
+
+-- "A refusal hands back its number and length 0, and image, desk and buffer keep every byte."
+pub record Kept (c : Call) (s : State) : Type 0 where
+  pub length-0 : moved (step c s .answer) ≡ 0
+  pub image-kept : step c s .image ≡ s .image
+  pub desk-kept : step c s .desk ≡ s .desk
+  pub buffer-kept : step c s .buffer ≡ given c
+
+abbrev pub RefusalKeeps : Type 0
+RefusalKeeps = (c : Call) (s : State) (r : Refusal) → step c s .answer ≡ Refused r → Kept c s
+
+-- Demand 2: "each refusal comes exactly when its condition holds and no earlier one in its call's order does."
+-- The rule at place k of the call's order is the first that applies
+pub record First (rs : List Rule) (k : ℕ) (r : Refusal) : Type 0 where
+  pub inside : k < length rs
+  pub is-rule : getD rs k (NotSound if false) .refusal ≡ r
+  pub applies : getD rs k (NotSound if false) .holds ≡ true
+  pub none-earlier : (j : ℕ) → j < k → getD rs j (NotSound if false) .holds ≡ false
+
+abbrev pub RefusedExactly : Type 0
+RefusedExactly = (c : Call) (s : State) (r : Refusal) → (step c s .answer ≡ Refused r) ↔ ((k : ℕ) × First (rules c s) k r)
+
+-- "That at most one outcome satisfies each statement": a call's statement is that its answer, image, desk and buffer are those of
+-- `step`
+abbrev pub OneOutcome : Type 0
+OneOutcome = (c : Call) (s : State) (o p : Outcome) → o ≡ step c s → p ≡ step c s → o ≡ p
