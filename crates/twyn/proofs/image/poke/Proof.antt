@@ -1,0 +1,67 @@
+use Prim.Native.Nat.{_≤_, _+_, _-_}
+use lib.ListN.{length}
+use mathlib.Core.Path.{_≡_}
+use borrow.Author.Needs.{needs}
+use Rattle.twyn.proofs.image.poke.Statement.{statement}
+use Rattle.twyn.proofs.image.poke.Tie as tie
+
+abbrev Inv-loop : tie.InvT-loop
+Inv-loop image₀ at s i₀ image i = (i ≤ length s) × ((length image ≡ length image₀) × (at + length s ≤ length image))
+
+abbrev μ-loop : tie.MeasureT-loop
+μ-loop image₀ at s i₀ image i = length s - i
+
+returns : tie.Need-returns Inv-loop μ-loop
+returns c = search needs
+
+sub-if2 : tie.Need-sub-if2 Inv-loop μ-loop
+sub-if2 c = search needs
+
+returns-2 : tie.Need-returns-2 Inv-loop μ-loop
+returns-2 c = search needs
+
+loop-holds : tie.Need-loop-holds Inv-loop μ-loop
+loop-holds c = search needs
+
+shared-slice-read-image : tie.Need-shared-slice-read-image Inv-loop μ-loop
+shared-slice-read-image c = search needs
+
+add-image : tie.Need-add-image Inv-loop μ-loop
+add-image c = search needs
+
+slice-write-image : tie.Need-slice-write-image Inv-loop μ-loop
+slice-write-image c = search needs
+
+add-i : tie.Need-add-i Inv-loop μ-loop
+add-i c = search needs
+
+loop-less : tie.Need-loop-less Inv-loop μ-loop
+loop-less c = search needs
+
+loop-again : tie.Need-loop-again Inv-loop μ-loop
+loop-again c = search needs
+
+same-length : tie.Need-same-length Inv-loop μ-loop
+same-length c = search needs
+
+returns-3 : tie.Need-returns-3 Inv-loop μ-loop
+returns-3 c = search needs
+
+pub poke-spec : {M : Type 1} → statement M
+poke-spec =
+    tie.close
+    (tie.spec
+    Inv-loop
+    μ-loop
+    returns
+    sub-if2
+    returns-2
+    loop-holds
+    shared-slice-read-image
+    add-image
+    slice-write-image
+    add-i
+    loop-less
+    loop-again
+    same-length
+    returns-3)
