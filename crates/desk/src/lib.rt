@@ -1,5 +1,6 @@
-// The desk: sixteen logical units (LUNs), each free or holding a user, a directory slot, a mode and a place; and the answers
-// of the calls. What each call does in every case stands in specs/.
+// The public face: the desk of sixteen logical units (LUNs), and the ten calls as its methods: format and check (volumes), allocate,
+// delete, assign, close, rewind, read, write, update. Each takes any image, any desk and any numbers, hands the desk back in its reply,
+// and states one equation: answer, image, desk and buffer are those of its definition in specs/Calls or specs/Transfers.
 
 pub mod allocating;
 pub mod assigning;
