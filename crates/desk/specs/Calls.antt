@@ -1,122 +1,186 @@
--- The calls that move no data: format, check, allocate, delete, assign, close, rewind. Each list of rules is the call's order.
-use mathlib.Core.Bool.{Bool, true, not}
-use mathlib.Core.List.{List, [], _∷_}
-use Prim.Native.Nat.{ℕ, _*_, _-_}
+-- The calls as values. Of each: its rules in the order of the status table, its change, the buffer that it was lent, the bytes that it was
+-- sent, and what it may touch. `step` is what every public function states of itself.
+use mathlib.Core.Bool.{Bool, not, true}
+use mathlib.Core.List.{List, [], _∷_, _++_}
+use Prim.Native.Nat.{ℕ, _-_}
+use lib.Dec.{leb, ltb}
 use lib.ListN.{length}
-use lib.Dec.{eqb, leb, ltb}
-use Rattle.ownership.specs.Numbers.{mostSectors, recordLimit, lastUser}
-use Rattle.ownership.specs.Bytes.{_and_, _or_, if_then_else_, word, all, some, index}
-use Rattle.ownership.specs.Names.{descriptor, volumeId}
-use Rattle.ownership.specs.Volume.{sectors, inRange}
-use Rattle.ownership.specs.Directory.{entries, unused, named, owner, entryAt}
-use Rattle.ownership.specs.Free.{free, run, formatted}
+use Rattle.numbers.specs.Numbers.{lastUser}
+use Rattle.lists.specs.Lists.{if_then_else_, _or_, _and_, all}
+use Rattle.lists.specs.Parts.{sectors}
+use Rattle.volume.specs.Names.{userOf}
+use Rattle.volume.specs.Directory.{entryAt}
+use Rattle.volume.specs.Sat.{free}
+use Rattle.volume.specs.Formatted.{formatted}
 use Rattle.files.specs.Files.{extent, sound}
-use Rattle.files.specs.Changes.{taken, allocated, deleted}
-use Rattle.desk.specs.declared.Mode.{Mode}
-use Rattle.desk.specs.declared.Place.{Place}
-use Rattle.desk.specs.declared.Place.the-variants.{Fresh, At}
-use Rattle.desk.specs.declared.Lun.{Lun}
+use Rattle.files.specs.Rights.{hasRight}
+use Rattle.files.specs.Changes.{deleted}
+use Rattle.luns.specs.declared.Mode.{Mode}
+use Rattle.luns.specs.Luns.{placeless, agree, isHeld, movedTo, freeLun}
+use Rattle.luns.specs.declared.Place.{Place}
+use Rattle.luns.specs.declared.Place.the-variants.{Fresh, At}
+use Rattle.luns.specs.Modes.{writes, modeOf, reads}
+use Rattle.luns.specs.declared.Lun.{Lun}
+use Rattle.work.specs.declared.Refusal.the-variants.{BadLun, NotSound, BadRequest, NoRight, UnknownType, InUse}
+use Rattle.work.specs.Refusals.{Rule, _if_}
+use Rattle.work.specs.Volumes.{slotOf, namedRules, formatRules, allocateRules, newFile}
+use Rattle.work.specs.Transfers.{readRules, writeRules, updateRules, Moving, reading, writing, updating, units}
+use Rattle.desk.specs.Desk.{State, ready, lunAt, mine, spare, fileOf, aimed, putLun, emptyDesk}
 use Rattle.desk.specs.declared.Desk.{Desk}
-use Rattle.desk.specs.declared.Refusal.the-variants.{UnknownType, BadLun, NoRight, InUse, NoFile, OutOfRange, NoRoom, BadDescriptor, NameTaken, DirectoryFull, NotSound}
-use Rattle.desk.specs.declared.Answer.the-variants.{Done, Checked}
-use Rattle.desk.specs.Modes.{modeOf, writes}
-use Rattle.desk.specs.Desk.{freeLun, emptyDesk, lunAt, putLun, movedTo, hasRight, agree, ready, mine, spare, isHeld}
-use Rattle.desk.specs.Answers.{Outcome, Rule, outcome, judged, _if_}
+use Rattle.desk.specs.declared.Report.the-variants.{Moved, Checked}
+use Rattle.desk.specs.Answers.{Change, Outcome, judged}
 
--- Format: "$60 only": "numbers out of range, an image .. that is no multiple of 256 bytes, or a bad volume ID"
-abbrev pub formatRules : List ℕ → List ℕ → ℕ → List Rule
-formatRules img id n =
-    OutOfRange if not (eqb (length img) (256 * sectors img) and inRange (sectors img) n and volumeId id) ∷ []
+-- Any numbers, any bytes, any lengths
+pub data Call : Type 0 where
+  Format : (id : List ℕ) (dirs : ℕ) → Call
+  Check : Call
+  Allocate : (caller : ℕ) (desc : List ℕ) (kind size long : ℕ) → Call
+  Assign : (caller lun : ℕ) (desc : List ℕ) (mode : ℕ) (end : Bool) → Call
+  Close Rewind : (caller lun : ℕ) → Call
+  Delete : (caller : ℕ) (desc : List ℕ) → Call
+  Read : (caller lun sel num : ℕ) (buffer : List ℕ) → Call
+  Write Update : (caller lun sel num : ℕ) (bytes : List ℕ) → Call
 
-unfoldable pub format : List ℕ → Desk → List ℕ → ℕ → Outcome
-format img d id n =
-    judged (formatRules img id n) img d [] (outcome (Done 0) (formatted id n (sectors img)) emptyDesk [])
+-- All calls but format and check begin with $6F and $03; `fine` says whether caller and LUN are as the call wants them
+unfoldable pub beginRules : State → Bool → List Rule
+beginRules s fine = NotSound if not (ready s) ∷ BadLun if not fine ∷ []
 
--- "Check answers sound or not, and the number of free sectors (0 if not sound)"
-unfoldable pub check : List ℕ → Desk → Outcome
-check img d = outcome (Checked (sound img) (if sound img then free img else 0)) img d []
-
--- "stops at the first match": the slot of a descriptor, or the number of entries
-unfoldable pub slotOf : List ℕ → List ℕ → ℕ
-slotOf img desc = index (named desc) (entries img)
-
-unfoldable pub exists : List ℕ → List ℕ → Bool
-exists img desc = some (named desc) (entries img)
-
--- "Contiguous size 1 to 2,048, record length 0; sequential size 0, record length 0 to 1,024."
-unfoldable pub sized : ℕ → ℕ → ℕ → Bool
-sized k n l = if eqb k 0 then leb 1 n and leb n mostSectors and eqb l 0 else eqb n 0 and leb l recordLimit
-
--- "Allocate: $6F, $03, $64, $02, $60, $0B, $66, $67, $63"; "uses the lowest unused entry"
-abbrev pub allocateRules : List ℕ → Desk → ℕ → List ℕ → ℕ → ℕ → ℕ → List Rule
-allocateRules img d caller desc k n l =
-    NotSound if not (ready img d)
-    ∷ BadLun if ltb lastUser caller
-    ∷ BadDescriptor if not (descriptor desc)
-    ∷ UnknownType if ltb 1 k
-    ∷ OutOfRange if not (sized k n l)
-    ∷ NoRight if not (hasRight caller (word desc 0))
-    ∷ NameTaken if exists img desc
-    ∷ DirectoryFull if not (some unused (entries img))
-    ∷ NoRoom if leb (sectors img) (run (taken k n) img)
-    ∷ []
-
-unfoldable pub allocate : List ℕ → Desk → ℕ → List ℕ → ℕ → ℕ → ℕ → Outcome
-allocate img d caller desc k n l =
-    judged (allocateRules img d caller desc k n l)
-    img d [] (outcome (Done 0) (allocated (index unused (entries img)) desc k n l (run (taken k n) img) img) d [])
-
--- "Delete: $6F, $03, $64, $17, $0B, $0D"
-abbrev pub deleteRules : List ℕ → Desk → ℕ → List ℕ → List Rule
-deleteRules img d caller desc =
-    NotSound if not (ready img d)
-    ∷ BadLun if ltb lastUser caller
-    ∷ BadDescriptor if not (descriptor desc)
-    ∷ NoFile if not (exists img desc)
-    ∷ NoRight if not (hasRight caller (word desc 0))
-    ∷ InUse if isHeld d (slotOf img desc)
-    ∷ []
-
-unfoldable pub delete : List ℕ → Desk → ℕ → List ℕ → Outcome
-delete img d caller desc =
-    judged (deleteRules img d caller desc)
-    img d [] (outcome (Done 0) (deleted (slotOf img desc) img) d [])
+-- All transfers go on with $82: "a read without a reading mode, a write or update without a writing one; selector unknown; .."
+unfoldable pub openRules : (Mode → Bool) → State → ℕ → ℕ → ℕ → List Rule
+openRules able s caller lun sel =
+    beginRules s (mine (s .desk) caller lun)
+    ++ (BadRequest if (not (able (lunAt (s .desk) lun .mode)) or placeless sel (lunAt (s .desk) lun .place)) ∷ [])
 
 -- "Assign gives Fresh, or with position-at-end and a writing mode At the last record or sector, n = 1 (Fresh if there is none)"
 unfoldable pub startOf : List ℕ → List ℕ → Mode → Bool → Place
 startOf img e m end = if end and writes m and leb 1 (extent img e) then At (extent img e - 1) 1 else Fresh
 
+-- the LUN that an assignment of the file in a slot makes
+unfoldable pub seatOf : List ℕ → ℕ → ℕ → Mode → Bool → Lun
+seatOf img caller slot m end =
+    record { held = true; user = caller; slot = slot; mode = m; place = startOf img (entryAt img slot) m end }
+
+-- "caller lacks the right, or modes clash"
+unfoldable pub seatRules : Desk → ℕ → ℕ → Lun → List Rule
+seatRules d caller user u = NoRight if (writes (u .mode) and not (hasRight caller user) or not (all (agree u) (d .luns))) ∷ []
+
 unfoldable pub newLun : List ℕ → ℕ → List ℕ → ℕ → Bool → Lun
-newLun img caller desc mode end =
-    record { held = true; user = caller; slot = slotOf img desc; mode = modeOf mode; place = startOf img (entryAt img (slotOf img desc)) (modeOf mode) end }
+newLun img caller desc mode end = seatOf img caller (slotOf img desc) (modeOf mode) end
 
 -- "Assign: $6F, $03, $02, $64, $17, $0B"
-abbrev pub assignRules : List ℕ → Desk → ℕ → ℕ → List ℕ → ℕ → Bool → List Rule
-assignRules img d caller lun desc mode end =
-    NotSound if not (ready img d)
-    ∷ BadLun if not (spare d caller lun)
-    ∷ UnknownType if ltb 7 mode
-    ∷ BadDescriptor if not (descriptor desc)
-    ∷ NoFile if not (exists img desc)
-    ∷ NoRight if (writes (modeOf mode) and not (hasRight caller (word desc 0)) or not (all (agree (newLun img caller desc mode end)) (d .luns)))
-    ∷ []
+unfoldable pub assignRules : State → ℕ → ℕ → List ℕ → ℕ → Bool → List Rule
+assignRules s caller lun desc mode end =
+    beginRules s (spare (s .desk) caller lun)
+    ++ (UnknownType if ltb 7 mode
+    ∷ (namedRules (s .image) desc ++ seatRules (s .desk) caller (userOf desc) (newLun (s .image) caller desc mode end)))
 
-unfoldable pub assign : List ℕ → Desk → ℕ → ℕ → List ℕ → ℕ → Bool → Outcome
-assign img d caller lun desc mode end =
-    judged (assignRules img d caller lun desc mode end)
-    img d [] (outcome (Done 0) img (putLun d lun (newLun img caller desc mode end)) [])
+-- "Delete: $6F, $03, $64, $17, $0B, $0D"
+unfoldable pub removeRules : Desk → ℕ → ℕ → ℕ → List Rule
+removeRules d caller user slot = NoRight if not (hasRight caller user) ∷ InUse if isHeld (d .luns) slot ∷ []
 
--- "Close, rewind: $6F, $03"; "Rewind gives Fresh"
-abbrev pub heldRules : List ℕ → Desk → ℕ → ℕ → List Rule
-heldRules img d caller lun = NotSound if not (ready img d) ∷ BadLun if not (mine d caller lun) ∷ []
+unfoldable pub deleteRules : State → ℕ → List ℕ → List Rule
+deleteRules s caller desc =
+    beginRules s (leb caller lastUser)
+    ++ (namedRules (s .image) desc ++ removeRules (s .desk) caller (userOf desc) (slotOf (s .image) desc))
 
-unfoldable pub close : List ℕ → Desk → ℕ → ℕ → Outcome
-close img d caller lun = judged (heldRules img d caller lun) img d [] (outcome (Done 0) img (putLun d lun freeLun) [])
+-- "Format: $60 only. Check: never refuses. Close, rewind: $6F, $03"
+unfoldable pub rules : Call → State → List Rule
+rules (Format id n) s = formatRules (s .image) id n
+rules Check s = []
+rules (Allocate caller desc k n l) s = beginRules s (leb caller lastUser) ++ allocateRules (s .image) caller desc k n l
+rules (Assign caller lun desc mode end) s = assignRules s caller lun desc mode end
+rules (Close caller lun) s = beginRules s (mine (s .desk) caller lun)
+rules (Rewind caller lun) s = beginRules s (mine (s .desk) caller lun)
+rules (Delete caller desc) s = deleteRules s caller desc
+rules (Read caller lun sel num buf) s =
+    openRules reads s caller lun sel ++ readRules (s .image) (fileOf s lun) (aimed s lun sel num) (length buf)
+rules (Write caller lun sel num bs) s = openRules writes s caller lun sel ++ writeRules (s .image) (fileOf s lun) (aimed s lun sel num) bs
+rules (Update caller lun sel num bs) s = openRules writes s caller lun sel ++ updateRules (s .image) (fileOf s lun) (aimed s lun sel num) bs
 
-unfoldable pub rewind : List ℕ → Desk → ℕ → ℕ → Outcome
-rewind img d caller lun =
-    judged (heldRules img d caller lun) img d [] (outcome (Done 0) img (putLun d lun (movedTo Fresh (lunAt d lun))) [])
+-- a change with no data: image and desk after it
+unfoldable pub quietly : List ℕ → Desk → Change
+quietly img d = record { report = Moved 0; image = img; desk = d; buffer = [] }
+
+-- "After an accepted transfer the place is At the first record or sector moved"
+unfoldable pub after : Desk → ℕ → Moving → Desk
+after d lun m = putLun d lun (movedTo (At (m .from) (m .count)) (lunAt d lun))
+
+unfoldable pub transferred : State → ℕ → Moving → Change
+transferred s lun m = record { report = Moved (m .bytes); image = m .image; desk = after (s .desk) lun m; buffer = m .buffer }
+
+-- "sound or not, and the number of free sectors (0 if not sound)"
+unfoldable pub checked : State → Change
+checked s = record {
+  report = Checked (sound (s .image)) (if sound (s .image) then free (s .image) else 0);
+  image = s .image;
+  desk = s .desk;
+  buffer = [];
+}
+
+unfoldable pub done : Call → State → Change
+done (Format id n) s = quietly (formatted id n (sectors (s .image))) emptyDesk
+done Check s = checked s
+done (Allocate caller desc k n l) s = quietly (newFile (s .image) desc k n l) (s .desk)
+done (Assign caller lun desc mode end) s = quietly (s .image) (putLun (s .desk) lun (newLun (s .image) caller desc mode end))
+done (Close caller lun) s = quietly (s .image) (putLun (s .desk) lun freeLun)
+done (Rewind caller lun) s = quietly (s .image) (putLun (s .desk) lun (movedTo Fresh (lunAt (s .desk) lun)))
+done (Delete caller desc) s = quietly (deleted (slotOf (s .image) desc) (s .image)) (s .desk)
+done (Read caller lun sel num buf) s = transferred s lun (reading (s .image) (fileOf s lun) (aimed s lun sel num) buf)
+done (Write caller lun sel num bs) s = transferred s lun (writing (s .image) (fileOf s lun) (aimed s lun sel num) bs)
+done (Update caller lun sel num bs) s = transferred s lun (updating (s .image) (fileOf s lun) (aimed s lun sel num) bs)
+
+-- the buffer that a call is lent, and the bytes that its caller sends
+unfoldable pub given : Call → List ℕ
+given (Format id n) = []
+given Check = []
+given (Allocate caller desc k n l) = []
+given (Assign caller lun desc mode end) = []
+given (Close caller lun) = []
+given (Rewind caller lun) = []
+given (Delete caller desc) = []
+given (Read caller lun sel num buf) = buf
+given (Write caller lun sel num bs) = bs
+given (Update caller lun sel num bs) = bs
+
+unfoldable pub sent : Call → List ℕ
+sent (Format id n) = id
+sent Check = []
+sent (Allocate caller desc k n l) = desc
+sent (Assign caller lun desc mode end) = desc
+sent (Close caller lun) = []
+sent (Rewind caller lun) = []
+sent (Delete caller desc) = desc
+sent (Read caller lun sel num buf) = []
+sent (Write caller lun sel num bs) = bs
+sent (Update caller lun sel num bs) = bs
+
+-- What a call may touch of the files that are there: nothing; one file; of one file n records or sectors from i on; where files lie,
+-- and nothing that is read from them; everything
+pub data Touch : Type 0 where
+  Nothing : Touch
+  OneFile : (slot : ℕ) → Touch
+  Units : (slot i n : ℕ) → Touch
+  WhereFilesLie : Touch
+  Everything : Touch
+
+unfoldable pub touch : Call → State → Touch
+touch (Format id n) s = Everything
+touch Check s = Nothing
+touch (Allocate caller desc k n l) s = Nothing
+touch (Assign caller lun desc mode end) s = Nothing
+touch (Close caller lun) s = Nothing
+touch (Rewind caller lun) s = Nothing
+touch (Delete caller desc) s = OneFile (slotOf (s .image) desc)
+touch (Read caller lun sel num buf) s = Nothing
+touch (Write caller lun sel num bs) s =
+    Units (lunAt (s .desk) lun .slot) (aimed s lun sel num) (units (fileOf s lun) (length bs))
+touch (Update caller lun sel num bs) s = Units (lunAt (s .desk) lun .slot) (aimed s lun sel num) 1
+
+-- One call: the first rule that applies, or its change
+unfoldable pub step : Call → State → Outcome
+step c s = judged (rules c s) s (given c) (done c s)
 
 unfoldable pub calls-open : Unit {0}
-unfolding format check slotOf exists sized allocate delete startOf newLun assign close rewind
+unfolding beginRules openRules startOf seatOf seatRules newLun assignRules removeRules deleteRules rules quietly after transferred checked
+    done given sent touch step
 calls-open = tt

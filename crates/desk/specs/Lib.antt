@@ -1,10 +1,4 @@
-pub mod Modes
 pub mod Desk
 pub mod Answers
 pub mod Calls
-pub mod Transfers
-pub mod Ready
-pub mod Fits
-pub mod Rest
-pub mod RestFiles
-pub mod RestWrite
+pub mod Code

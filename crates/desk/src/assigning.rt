@@ -1,34 +1,31 @@
-// Assign: a free LUN takes a file.
+// Assign, close and rewind: a free LUN takes a file, a held one is freed or made Fresh.
 ghost use mathlib.Core.Path.{_≡_};
-ghost use mathlib.Core.Bool.{true};
 ghost use mathlib.Core.List.{[]};
 ghost use Prim.Native.Nat.{_<_};
-ghost use Rattle.ownership.specs.Directory.{entryAt};
-ghost use Rattle.ownership.specs.Names.{descriptor};
-ghost use Rattle.ownership.specs.Places.{Located};
-ghost use Rattle.files.specs.Files.{sound};
-ghost use Rattle.files.specs.Slots.{InUse};
+ghost use Rattle.numbers.specs.Numbers.{lunCount};
+ghost use Rattle.volume.specs.Directory.{entryAt};
+ghost use Rattle.files.specs.Code.Slots.{InUse};
+ghost use Rattle.desk.specs.Desk.{state};
 ghost use Rattle.desk.specs.Answers.{outcome};
-ghost use Rattle.desk.specs.Calls.{startOf, assign};
-ghost use Rattle.desk.specs.Rest.{seatOf, seatRest, assignRest};
+ghost use Rattle.desk.specs.Calls.{step, Assign, Close, Rewind, startOf, seatOf};
+ghost use Rattle.desk.specs.Code.Left.{Begins, modeLeft, assignLeft, seatLeft};
 use crate::Desk;
-use crate::Lun;
-use crate::Mode;
-use crate::Place;
-use crate::Refusal;
 use crate::Reply;
-use crate::luns::has_right;
-use crate::ready::Gate;
-use crate::ready::ready;
+use crate::Report;
+use crate::opening::Begun;
 use files::extent::extent_of;
-use ownership::bytes::word_at;
-use ownership::directory::Found;
-use ownership::directory::find;
-use ownership::names::descriptor;
-use ownership::volume::Places;
+use files::rights::has_right;
+use luns::Lun;
+use luns::Mode;
+use luns::Place;
+use volume::locate::Layout;
+use volume::names::user_of;
+use work::Refusal;
+use work::Sought;
+use work::finding::seek;
 
 // Fresh, or for a writer at the end the last record or sector.
-fn start_of(image: &[u8], p: Places, slot: usize, mode: Mode, at_end: bool) -> Place
+fn start_of(image: &[u8], p: Layout, slot: usize, mode: Mode, at_end: bool) -> Place
     requires { ⌜ InUse (now image) p slot ⌝ }
     ensures { λ r. ⌜ r ≡ startOf (now (image .entry)) (entryAt (now (image .entry)) slot) mode «at_end» ⌝ }
 {
@@ -44,7 +41,7 @@ fn start_of(image: &[u8], p: Places, slot: usize, mode: Mode, at_end: bool) -> P
 }
 
 // The LUN that an assignment makes.
-fn seat_of(image: &[u8], p: Places, caller: u32, slot: usize, mode: Mode, at_end: bool) -> Lun
+fn seat_of(image: &[u8], p: Layout, caller: u32, slot: usize, mode: Mode, at_end: bool) -> Lun
     requires { ⌜ InUse (now image) p slot ⌝ }
     ensures { λ r. ⌜ r ≡ seatOf (now (image .entry)) caller slot mode «at_end» ⌝ }
 {
@@ -61,40 +58,68 @@ fn seat_of(image: &[u8], p: Places, caller: u32, slot: usize, mode: Mode, at_end
 impl Desk {
     // The right to write, and modes that agree: then the LUN is taken.
     fn seat(self, image: &[u8], caller: u32, owner: u32, lun: u32, u: Lun) -> Reply
-        requires { ⌜ lun < 16 ⌝ }
-        ensures { λ r. ⌜ outcome (r .answer) (now (image .entry)) (r .desk) [] ≡ seatRest (now (image .entry)) self caller owner lun u ⌝ }
+        requires { ⌜ lun < lunCount ⌝ }
+        ensures { λ r. ⌜ outcome (r .answer) (now (image .entry)) (r .desk) []
+            ≡ seatLeft (state (now (image .entry)) self) caller owner lun u ⌝ }
     {
         let mode = u.mode;
-        if (mode.writes() & !has_right(caller, owner)) | !self.agrees_from(u, 0) {
+        let luns = self.luns;
+        if (mode.writes() & !has_right(caller, owner)) | !u.agrees_from(luns, 0) {
             return Reply::refused(Refusal::NoRight, self);
         }
-        Reply::done(0, self.put(lun, u))
+        Reply::done(Report::Moved(0), self.put(lun, u))
     }
 
     // The file is looked for.
     fn assign_named(
         self,
         image: &[u8],
-        p: Places,
+        p: Layout,
         caller: u32,
         lun: u32,
         desc: &[u8],
         mode: Mode,
         at_end: bool,
     ) -> Reply
-        requires { ⌜ Located (now image) p × (sound (now image) ≡ true) × (lun < 16) × (descriptor (now desc) ≡ true) ⌝ }
-        ensures { λ r. ⌜ outcome (r .answer) (now (image .entry)) (r .desk) [] ≡ assignRest (now (image .entry)) self caller lun (now (desc .entry)) mode «at_end» ⌝ }
+        requires { ⌜ Begins (state (now image) self) p × (lun < lunCount) ⌝ }
+        ensures { λ r. ⌜ outcome (r .answer) (now (image .entry)) (r .desk) [] ≡ assignLeft (state (now (image .entry)) self) caller lun
+            (now (desc .entry)) mode «at_end» ⌝ }
     {
-        let Found::At(slot) = find(image, p, desc) else {
-            return Reply::refused(Refusal::NoFile, self);
-        };
-        let owner = word_at(desc, 0) as u32;
-        let u = seat_of(image, p, caller, slot, mode, at_end);
-        self.seat(image, caller, owner, lun, u)
+        let sought = seek(image, p, desc);
+        match sought {
+            Sought::Denied(why) => Reply::refused(why, self),
+            Sought::At(slot) => {
+                let owner = user_of(desc) as u32;
+                let u = seat_of(image, p, caller, slot, mode, at_end);
+                self.seat(image, caller, owner, lun, u)
+            }
+        }
+    }
+
+    // The mode is looked up.
+    fn assign_mode(
+        self,
+        image: &[u8],
+        p: Layout,
+        caller: u32,
+        lun: u32,
+        desc: &[u8],
+        mode: u32,
+        at_end: bool,
+    ) -> Reply
+        requires { ⌜ Begins (state (now image) self) p × (lun < lunCount) ⌝ }
+        ensures { λ r. ⌜ outcome (r .answer) (now (image .entry)) (r .desk) [] ≡ modeLeft (state (now (image .entry)) self) caller lun
+            (now (desc .entry)) mode «at_end» ⌝ }
+    {
+        if 7 < mode {
+            return Reply::refused(Refusal::UnknownType, self);
+        }
+        self.assign_named(image, p, caller, lun, desc, Mode::numbered(mode), at_end)
     }
 
     /// Gives a free LUN to a file, in a mode 0 to 7, at its start or for a writer at its end. Refuses a volume that is not sound or a
-    /// desk that does not fit, then the LUN, the mode, the descriptor, a file that is not there, and a mode without the right or in clash.
+    /// desk that does not fit, then the LUN, the mode, the descriptor, a file that is not there, and a mode without the right or in
+    /// clash.
     pub fn assign(
         self,
         image: &[u8],
@@ -104,20 +129,42 @@ impl Desk {
         mode: u32,
         at_end: bool,
     ) -> Reply
-        ensures { λ r. ⌜ outcome (r .answer) (now (image .entry)) (r .desk) [] ≡ assign (now (image .entry)) self caller lun (now (desc .entry)) mode «at_end» ⌝ }
+        ensures { λ r. ⌜ outcome (r .answer) (now (image .entry)) (r .desk) [] ≡ step (Assign caller lun (now (desc .entry)) mode «at_end»)
+            (state (now (image .entry)) self) ⌝ }
     {
-        let Gate::Open(p) = ready(image, self) else {
-            return Reply::refused(Refusal::NotSound, self);
-        };
-        if !self.spare(caller, lun) {
-            return Reply::refused(Refusal::BadLun, self);
+        let begun = self.begin(image, self.spare(caller, lun));
+        match begun {
+            Begun::Refused(why) => Reply::refused(why, self),
+            Begun::At(p) => self.assign_mode(image, p, caller, lun, desc, mode, at_end),
         }
-        if 7 < mode {
-            return Reply::refused(Refusal::UnknownType, self);
+    }
+
+    /// Frees a LUN. Refuses a volume that is not sound or a desk that does not fit it, then a LUN that is not the caller's.
+    pub fn close(self, image: &[u8], caller: u32, lun: u32) -> Reply
+        ensures { λ r. ⌜ outcome (r .answer) (now (image .entry)) (r .desk) []
+            ≡ step (Close caller lun) (state (now (image .entry)) self) ⌝ }
+    {
+        let begun = self.begin(image, self.mine(caller, lun));
+        match begun {
+            Begun::Refused(why) => Reply::refused(why, self),
+            Begun::At(_) => Reply::done(Report::Moved(0), self.put(lun, Lun::free())),
         }
-        if !descriptor(desc) {
-            return Reply::refused(Refusal::BadDescriptor, self);
+    }
+
+    /// Makes a LUN's place Fresh. Refuses as close does.
+    pub fn rewind(self, image: &[u8], caller: u32, lun: u32) -> Reply
+        ensures { λ r. ⌜ outcome (r .answer) (now (image .entry)) (r .desk) [] ≡ step (Rewind caller lun)
+            (state (now (image .entry)) self) ⌝ }
+    {
+        let begun = self.begin(image, self.mine(caller, lun));
+        match begun {
+            Begun::Refused(why) => Reply::refused(why, self),
+            Begun::At(_) => {
+                Reply::done(
+                    Report::Moved(0),
+                    self.put(lun, self.lun(lun).moved_to(Place::Fresh)),
+                )
+            }
         }
-        self.assign_named(image, p, caller, lun, desc, Mode::numbered(mode), at_end)
     }
 }

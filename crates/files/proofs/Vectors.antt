@@ -1,18 +1,21 @@
 -- Computed examples of this layer's definitions: an edit of a definition that breaks one is refused here.
-use mathlib.Core.Path.{_≡_, refl}
-use mathlib.Core.Bool.{Bool, true, false}
 use mathlib.Core.List.{List, [], _∷_, _++_}
+use mathlib.Core.Path.{_≡_, refl}
+use mathlib.Core.Bool.{Bool, false}
 use Prim.Native.Nat.{ℕ}
-use lib.ListN.{length, replicate}
-use Rattle.ownership.specs.Bytes.{flat, bytes-open}
-use Rattle.ownership.specs.Names.{names-open}
-use Rattle.ownership.specs.Volume.{volume-open}
-use Rattle.ownership.specs.Directory.{entryAt, directory-open}
+use lib.ListN.{replicate}
+use Rattle.lists.specs.Lists.{lists-open, flat}
+use Rattle.lists.specs.Parts.{parts-open}
+use Rattle.volume.specs.Directory.{entryAt, directory-open}
+use Rattle.volume.specs.Sat.{one, free, sat-open}
+use Rattle.volume.specs.Formatted.{formatted, formatted-open}
+use Rattle.volume.specs.Names.{names-open}
+use Rattle.volume.specs.Volume.{volume-open}
+use Rattle.records.specs.Records.{streamOf, records-open, recordsOf, wholeRecords}
+use Rattle.records.specs.Streams.{streams-open}
 use Rattle.ownership.specs.Blocks.{block, pairs, total, streamLength, blocks-open}
-use Rattle.ownership.specs.Owners.{one, owners-open}
-use Rattle.ownership.specs.Free.{formatted, free, free-open}
-use Rattle.files.specs.Records.{encoded, streamOf, wholeRecords, recordsOf, records-open}
-use Rattle.files.specs.Files.{stream, records, sound, files-open}
+use Rattle.ownership.specs.Owners.{owners-open}
+use Rattle.files.specs.Files.{stream, sound, files-open}
 use Rattle.files.specs.Changes.{allocated, deleted, appended, updated, changes-open}
 
 -- records of 3, 0 and 2 bytes: the odd one has a pad byte
@@ -20,11 +23,11 @@ three : List (List ℕ)
 three = (0x41 ∷ 0x42 ∷ 0x43 ∷ []) ∷ [] ∷ (1 ∷ 2 ∷ []) ∷ []
 
 three-stream : streamOf 0 three ≡ 0 ∷ 3 ∷ 0x41 ∷ 0x42 ∷ 0x43 ∷ 0 ∷ 0 ∷ 0 ∷ 0 ∷ 2 ∷ 1 ∷ 2 ∷ []
-unfolding three bytes-open records-open
+unfolding three lists-open parts-open records-open
 three-stream = refl
 
 three-back : recordsOf 0 (streamOf 0 three) ≡ three
-unfolding three bytes-open records-open
+unfolding three lists-open parts-open records-open
 three-back = refl
 
 -- a pad byte that is not zero, a record cut short, a count over 1,024
@@ -32,7 +35,7 @@ unwhole : List Bool
 unwhole = wholeRecords 0 (0 ∷ 1 ∷ 7 ∷ 7 ∷ []) ∷ wholeRecords 0 (0 ∷ 2 ∷ 7 ∷ []) ∷ wholeRecords 0 (4 ∷ 1 ∷ replicate 1026 0) ∷ wholeRecords 3 (1 ∷ 2 ∷ 3 ∷ 4 ∷ []) ∷ []
 
 unwhole-refused : unwhole ≡ false ∷ false ∷ false ∷ false ∷ []
-unfolding unwhole bytes-open records-open
+unfolding unwhole lists-open parts-open records-open
 unwhole-refused = refl
 
 -- A variable file on the smallest volume: its access block takes sector 3. The first record takes one sector, a short second one
@@ -42,7 +45,8 @@ desc = 0 ∷ 5 ∷ (replicate 8 32 ++ (88 ∷ replicate 7 32 ++ (65 ∷ 32 ∷ [
 
 seen : List ℕ → List ℕ
 seen img =
-    one (sound img) ∷ free img ∷ total (block img (entryAt img 0)) ∷ streamLength (block img (entryAt img 0)) ∷ (flat (λ p. p) (pairs (block img (entryAt img 0))) ++ stream img (entryAt img 0))
+    one (sound img) ∷ free img ∷ total (block img (entryAt img 0)) ∷ streamLength (block img (entryAt img 0)) ∷
+    (flat (λ p. p) (pairs (block img (entryAt img 0))) ++ stream img (entryAt img 0))
 
 -- each change on what the one before it left
 changed : List (List ℕ → List ℕ) → List ℕ → List (List ℕ)
@@ -66,5 +70,6 @@ appends-seen : appends ≡
     ∷ (1 ∷ 10 ∷ 1 ∷ 12 ∷ 0 ∷ 4 ∷ 0 ∷ 1 ∷ 0 ∷ 3 ∷ 1 ∷ 2 ∷ 3 ∷ 0 ∷ 0 ∷ 3 ∷ 7 ∷ 8 ∷ 9 ∷ 0 ∷ [])
     ∷ (1 ∷ 12 ∷ [])
     ∷ []
-unfolding appends changed seen desc bytes-open names-open volume-open directory-open blocks-open owners-open free-open records-open files-open changes-open
+unfolding appends changed seen desc lists-open parts-open names-open volume-open directory-open blocks-open owners-open sat-open formatted-open records-open files-open streams-open
+    changes-open
 appends-seen = refl

@@ -1,16 +1,17 @@
 -- What the calls make of an image. The volume is looked at as the call finds it.
-use mathlib.Core.Bool.{Bool, not}
-use mathlib.Core.List.{List, [], _∷_, _++_}
-use Prim.Native.Nat.{ℕ, _+_, _*_, _-_}
-use lib.ListN.{length, take, drop, set}
+use mathlib.Core.List.{List, _++_}
+use Prim.Native.Nat.{ℕ, _*_, _-_, _+_}
 use lib.Dec.{eqb}
-use Rattle.ownership.specs.Bytes.{if_then_else_, part, put, putSector, blanks, filled, inSectors, range}
-use Rattle.ownership.specs.Volume.{sat}
-use Rattle.ownership.specs.Directory.{entry, entryAt, recordLength, start}
+use lib.ListN.{length, set}
+use Rattle.lists.specs.Lists.{if_then_else_, range}
+use Rattle.lists.specs.Parts.{put, blanks, inSectors, putSector, part}
+use Rattle.volume.specs.Volume.{sat}
+use Rattle.volume.specs.Directory.{fields, entry, putEntry, entryAt, recordLength, start}
+use Rattle.volume.specs.Sat.{withBits, putSat, lowest}
+use Rattle.records.specs.Records.{encoded, streamOf}
+use Rattle.records.specs.Streams.{laid}
+use Rattle.ownership.specs.Owners.{owned, logical}
 use Rattle.ownership.specs.Blocks.{block, total, pairs, extendedBy, blockOf}
-use Rattle.ownership.specs.Owners.{logical, owned, withBits}
-use Rattle.ownership.specs.Free.{lowest, putSat, putEntry}
-use Rattle.files.specs.Records.{encoded, streamOf}
 use Rattle.files.specs.Files.{stream, records}
 
 -- Allocate: an entry of kind k in slot at, n sectors from s on marked and zero-filled, where "sequential: the lowest free sector as
@@ -20,7 +21,7 @@ taken k n = if eqb k 0 then n else 1
 
 unfoldable pub allocated : ℕ → List ℕ → ℕ → ℕ → ℕ → ℕ → List ℕ → List ℕ
 allocated at d k n l s img =
-    putEntry img at (entry k d l s n)
+    putEntry img at (entry (fields k d l s n))
     (putSat img (withBits 1 (sat img) (range s (taken k n)))
     (put (256 * s) (blanks (256 * taken k n)) img))
 
@@ -28,11 +29,6 @@ allocated at d k n l s img =
 unfoldable pub deleted : ℕ → List ℕ → List ℕ
 deleted at img =
     putEntry img at (blanks 32) (putSat img (withBits 0 (sat img) (owned img (entryAt img at))) img)
-
--- bytes laid over sectors from the first one's start on, the last filled with zeros
-unfoldable pub laid : List ℕ → List ℕ → List ℕ → List ℕ
-laid [] bs img = img
-laid (s ∷ ss) bs img = laid ss (drop 256 bs) (putSector s (filled 256 (take 256 bs)) img)
 
 -- Append: the stream with the record after it, the sectors that it needs beyond those that are there, and the segments with them
 unfoldable pub longer : List ℕ → List ℕ → List ℕ → List ℕ
@@ -65,5 +61,5 @@ unfoldable pub overwritten : List ℕ → ℕ → List ℕ → List ℕ → List
 overwritten e i bs img = put (256 * (start e + i)) bs img
 
 unfoldable pub changes-open : Unit {0}
-unfolding taken allocated deleted laid longer needed newSectors newPairs appended updated sectorsAt overwritten
+unfolding taken allocated deleted longer needed newSectors newPairs appended updated sectorsAt overwritten
 changes-open = tt

@@ -1,18 +1,16 @@
 -- A file's stream and records, the rest of soundness, and `sound` as a whole.
-use mathlib.Core.Bool.{Bool, true}
 use mathlib.Core.List.{List, []}
+use mathlib.Core.Bool.{Bool}
 use Prim.Native.Nat.{ℕ}
-use lib.ListN.{length, getD, take, drop}
-use Rattle.ownership.specs.Bytes.{_and_, _or_, if_then_else_, sector, all, flat, zeros}
-use Rattle.ownership.specs.Volume.{sound1}
-use Rattle.ownership.specs.Directory.{entries, unused, contiguous, recordLength, size, sound2}
-use Rattle.ownership.specs.Blocks.{block, streamLength, sound3}
+use lib.ListN.{take, drop, getD, length}
+use Rattle.lists.specs.Lists.{if_then_else_, _or_, _and_, all}
+use Rattle.lists.specs.Parts.{zeros}
+use Rattle.volume.specs.Directory.{recordLength, contiguous, size, unused, entries, sound2}
+use Rattle.volume.specs.Volume.{sound1}
+use Rattle.records.specs.Streams.{laidOut}
+use Rattle.records.specs.Records.{recordsOf, wholeRecords}
 use Rattle.ownership.specs.Owners.{logical, sound5}
-use Rattle.files.specs.Records.{wholeRecords, recordsOf}
-
--- the bytes of some sectors, one after the other
-unfoldable pub laidOut : List ℕ → List ℕ → List ℕ
-laidOut img ss = flat (λ s. sector s img) ss
+use Rattle.ownership.specs.Blocks.{block, streamLength, sound3}
 
 -- a sequential file's bytes: its stream of E bytes, then the tail of its last sector
 unfoldable pub stored : List ℕ → List ℕ → List ℕ
@@ -51,5 +49,5 @@ unfoldable pub sound : List ℕ → Bool
 sound img = sound1 img and sound2 img and sound3 img and sound4 img and sound5 img
 
 unfoldable pub files-open : Unit {0}
-unfolding laidOut stored stream tail records recordAt extent tailSound recordsSound sound4 sound
+unfolding stored stream tail records recordAt extent tailSound recordsSound sound4 sound
 files-open = tt

@@ -1,12 +1,4 @@
-pub mod Records
-pub mod Walk
-pub mod Files
 pub mod Changes
-pub mod Streams
-pub mod Spread
-pub mod Spots
-pub mod Slots
-pub mod Outcomes
-pub mod Room
-pub mod Growing
-pub mod Verdict
+pub mod Files
+pub mod Rights
+pub mod Code

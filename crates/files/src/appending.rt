@@ -1,38 +1,37 @@
 // Append: what it needs is known before any byte changes; then the new sectors are taken, and the record is written after the stream.
-use crate::encoding::encoded_length;
-use crate::encoding::write_record;
+ghost use mathlib.Core.Path.{_≡_};
+ghost use Prim.Native.Nat.{_+_, _≤_, _<_, _*_};
+ghost use lib.ListN.{length};
+ghost use Rattle.numbers.specs.Numbers.{mostSectors};
+ghost use Rattle.volume.specs.Directory.{entryAt};
+ghost use Rattle.files.specs.Changes.{longer, needed, newPairs, appended};
+ghost use Rattle.files.specs.Code.Growing.{Adds, Grows, grownWith, Taking, RecordFits, Takes};
+ghost use Rattle.lists.specs.Parts.{over, inSectors, sector, putSector};
+ghost use Rattle.volume.specs.Sat.{free, lowest};
+ghost use Rattle.volume.specs.Code.Located.{Located};
+ghost use Rattle.ownership.specs.Blocks.{pairs, extendedBy, blockOf, sectorsOf};
+ghost use Rattle.records.specs.Records.{encoded};
+ghost use Rattle.records.specs.Code.Mapped.{writtenAt};
+use crate::map::load_map;
+use crate::map::stream_end;
 use crate::slot::record_length;
 use crate::slot::start_of;
-use crate::stream::load_map;
-use crate::stream::stream_end;
 use crate::taking::extend_all;
 use crate::taking::lowest_free;
 use crate::taking::mark_all;
 use crate::taking::segments_with;
 use crate::taking::zero_all;
+use lists::parts::sector_of;
+use numbers::MOST_NEW;
+use numbers::MOST_SECTORS;
 use ownership::blocks::set_totals;
-use ownership::bytes::sector_of;
-use ownership::bytes::word_at;
-use ownership::directory::RECORD_LIMIT;
-use ownership::volume::Places;
-ghost use mathlib.Core.Path.{_≡_};
-ghost use Prim.Native.Nat.{_+_, _*_, _≤_, _<_};
-ghost use lib.ListN.{length};
-ghost use Rattle.ownership.specs.Bytes.{put, over, sector, putSector, inSectors};
-ghost use Rattle.ownership.specs.Directory.{entryAt};
-ghost use Rattle.ownership.specs.Blocks.{pairs, sectorsOf, extendedBy, blockOf};
-ghost use Rattle.ownership.specs.Free.{free, lowest};
-ghost use Rattle.ownership.specs.Places.{Located};
-ghost use Rattle.files.specs.Records.{encoded};
-ghost use Rattle.files.specs.Files.{laidOut};
-ghost use Rattle.files.specs.Changes.{laid, longer, needed, newPairs, appended};
-ghost use Rattle.files.specs.Growing.{Grows, grownWith, Taking, Fits, Adds, Takes};
-
-/// The most new sectors of one append: a count word and the longest data, from a sector's start on.
-pub const MOST_NEW: usize = (2 + RECORD_LIMIT + 255) / 256;
+use ownership::blocks::total;
+use records::encoding::encoded_length;
+use records::encoding::write_record;
+use volume::locate::Layout;
 
 // How long the stream of the file in slot k is with the record r after it.
-fn longer_length(img: &[u8], p: Places, k: usize, r: &[u8]) -> usize
+fn longer_length(img: &[u8], p: Layout, k: usize, r: &[u8]) -> usize
     requires { ⌜ Adds (now img) p k (now r) ⌝ }
     ensures { λ n. ⌜ n ≡ length (longer (now (img .entry)) (entryAt (now (img .entry)) k) (now (r .entry))) ⌝ }
 {
@@ -41,17 +40,17 @@ fn longer_length(img: &[u8], p: Places, k: usize, r: &[u8]) -> usize
 }
 
 /// How many sectors the file in slot k needs beyond its own for the record r after its stream.
-pub fn needed_sectors(img: &[u8], p: Places, k: usize, r: &[u8]) -> usize
+pub fn needed_sectors(img: &[u8], p: Layout, k: usize, r: &[u8]) -> usize
     requires { ⌜ Adds (now img) p k (now r) ⌝ }
     ensures { λ n. ⌜ n ≡ needed (now (img .entry)) (entryAt (now (img .entry)) k) (now (r .entry)) ⌝ }
 {
     let n = longer_length(img, p, k, r);
     let f = sector_of(img, start_of(img, p, k));
-    (n + 255) / 256 - word_at(f, 2)
+    (n + 255) / 256 - total(f)
 }
 
 // The n lowest free sectors of the volume, at the front of `out`.
-fn find_lowest(img: &[u8], p: Places, n: usize, out: &mut [u16])
+fn find_lowest(img: &[u8], p: Layout, n: usize, out: &mut [u16])
     requires { ⌜ Located (now img) p × (n ≤ free (now img)) × (n ≤ length (now out)) ⌝ }
     ensures { λ _. ⌜ now (out .exit) ≡ over (lowest n (now (img .entry))) (now (out .entry)) ⌝ }
 {
@@ -61,7 +60,7 @@ fn find_lowest(img: &[u8], p: Places, n: usize, out: &mut [u16])
 }
 
 /// How many segments the file in slot k has with the record r after its stream.
-pub fn segments_after(img: &[u8], p: Places, k: usize, r: &[u8]) -> usize
+pub fn segments_after(img: &[u8], p: Layout, k: usize, r: &[u8]) -> usize
     requires { ⌜ Adds (now img) p k (now r) × (needed (now img) (entryAt (now img) k) (now r) ≤ free (now img)) ⌝ }
     ensures { λ n. ⌜ n ≡ length (newPairs (now (img .entry)) (entryAt (now (img .entry)) k) (now (r .entry))) ⌝ }
 {
@@ -73,7 +72,7 @@ pub fn segments_after(img: &[u8], p: Places, k: usize, r: &[u8]) -> usize
 
 // The access block f with these sectors more, for a stream of e bytes.
 fn grow(f: &mut [u8], ss: &[u16], e: usize)
-    requires { ⌜ Grows (now f) (now ss) × (e < 1048576) ⌝ }
+    requires { ⌜ Grows (now f) (now ss) × (e < 512 * mostSectors) ⌝ }
     ensures { λ _. ⌜ now (f .exit) ≡ blockOf (extendedBy (pairs (now (f .entry))) (now (ss .entry))) (inSectors e) e ⌝ }
 {
     extend_all(f, ss);
@@ -81,8 +80,9 @@ fn grow(f: &mut [u8], ss: &[u16], e: usize)
 }
 
 fn grow_in(img: &mut [u8], s: usize, ss: &[u16], e: usize)
-    requires { ⌜ (256 * s + 256 ≤ length (now img)) × Grows (sector s (now img)) (now ss) × (e < 1048576) ⌝ }
-    ensures { λ _. ⌜ now (img .exit) ≡ putSector s (blockOf (extendedBy (pairs (sector s (now (img .entry)))) (now (ss .entry))) (inSectors e) e) (now (img .entry)) ⌝ }
+    requires { ⌜ (256 * s + 256 ≤ length (now img)) × Grows (sector s (now img)) (now ss) × (e < 512 * mostSectors) ⌝ }
+    ensures { λ _. ⌜ now (img .exit) ≡ putSector s
+        (blockOf (extendedBy (pairs (sector s (now (img .entry)))) (now (ss .entry))) (inSectors e) e) (now (img .entry)) ⌝ }
 {
     let at = 256 * s;
     let end = at + 256;
@@ -91,7 +91,7 @@ fn grow_in(img: &mut [u8], s: usize, ss: &[u16], e: usize)
 
 // The new sectors are listed in the access block in sector s, marked in the table, and filled with zeros.
 fn take_sectors(img: &mut [u8], sat: usize, s: usize, e: usize, ss: &[u16])
-    requires { ⌜ Taking (now img) sat s (now ss) × (e < 1048576) ⌝ }
+    requires { ⌜ Taking (now img) sat s (now ss) × (e < 512 * mostSectors) ⌝ }
     ensures { λ _. ⌜ now (img .exit) ≡ grownWith sat s e (now (ss .entry)) (now (img .entry)) ⌝ }
 {
     grow_in(img, s, ss, e);
@@ -101,16 +101,17 @@ fn take_sectors(img: &mut [u8], sat: usize, s: usize, e: usize, ss: &[u16])
 
 // The record r, written at place e of the stream whose access block is sector s.
 fn write_last(img: &mut [u8], s: usize, e: usize, l: usize, r: &[u8])
-    requires { ⌜ Fits (now img) s e l (now r) ⌝ }
-    ensures { λ _. ⌜ now (img .exit) ≡ laid (sectorsOf (sector s (now (img .entry)))) (put e (encoded l (now (r .entry))) (laidOut (now (img .entry)) (sectorsOf (sector s (now (img .entry)))))) (now (img .entry)) ⌝ }
+    requires { ⌜ RecordFits (now img) s e l (now r) ⌝ }
+    ensures { λ _. ⌜ now (img .exit) ≡ writtenAt (now (img .entry)) (sectorsOf (sector s (now (img .entry)))) e
+        (encoded l (now (r .entry))) ⌝ }
 {
-    let mut map = [0u16; 2048];
+    let mut map = [0u16; MOST_SECTORS];
     let n = load_map(img, s, &mut map);
     write_record(img, &map[..n], e, l, r);
 }
 
 /// Appends the record r to the sequential file in slot k.
-pub fn append(img: &mut [u8], p: Places, k: usize, r: &[u8])
+pub fn append(img: &mut [u8], p: Layout, k: usize, r: &[u8])
     requires { ⌜ Takes (now img) p k (now r) ⌝ }
     ensures { λ _. ⌜ now (img .exit) ≡ appended (entryAt (now (img .entry)) k) (now (r .entry)) (now (img .entry)) ⌝ }
 {

@@ -1,32 +1,37 @@
 // A volume judged: what points 3 and 4 of soundness say of stream bytes, and the verdict as a whole.
-use crate::record::Counted;
-use crate::record::walk;
-use crate::stream::load_map;
-use crate::stream::stream_byte;
-use crate::stream::stream_end;
-use ownership::bytes::word_at;
-use ownership::directory::contiguous;
-use ownership::directory::entry_of;
-use ownership::directory::unused;
+ghost use Rattle.lists.specs.Lists.{_and_, distinct};
+ghost use mathlib.Core.Path.{_≡_};
+ghost use mathlib.Core.Bool.{true, false};
+ghost use Rattle.records.specs.Code.Spots.{wholeOf};
+ghost use Prim.Native.Nat.{_*_, _≤_};
+ghost use lib.ListN.{length, drop};
+ghost use Rattle.lists.specs.Parts.{zeros, sector};
+ghost use Rattle.records.specs.Streams.{laidOut};
+ghost use Rattle.records.specs.Code.Mapped.{Mapped, streamIn};
+ghost use Rattle.records.specs.Records.{wholeRecords};
+ghost use Rattle.ownership.specs.Blocks.{streamLength, sound3};
+ghost use Rattle.files.specs.Code.Opens.{Opens, storedAt, streamAt};
+ghost use Rattle.volume.specs.Directory.{unused, contiguous, start};
+ghost use Rattle.files.specs.Files.{tailSound, recordsSound, sound4};
+ghost use Rattle.volume.specs.Code.Located.{Located};
+ghost use Rattle.ownership.specs.Owners.{allOwned};
+ghost use Rattle.files.specs.Code.Verdict.{soundAt, checkedOf};
+use crate::map::load_map;
+use crate::map::stream_end;
+use numbers::MOST_SECTORS;
 use ownership::judge::Judged;
 use ownership::judge::judge;
 use ownership::owners::free_sectors;
-use ownership::volume::Places;
-use ownership::volume::Where;
-ghost use mathlib.Core.Path.{_≡_};
-ghost use mathlib.Core.Bool.{true, false};
-ghost use Prim.Native.Nat.{_*_, _≤_, _<_};
-ghost use lib.ListN.{length, drop};
-ghost use Rattle.ownership.specs.Bytes.{_and_, sector, zeros, distinct};
-ghost use Rattle.ownership.specs.Places.{Located};
-ghost use Rattle.ownership.specs.Directory.{unused, contiguous, start};
-ghost use Rattle.ownership.specs.Blocks.{streamLength, sound3};
-ghost use Rattle.ownership.specs.Owners.{allOwned};
-ghost use Rattle.files.specs.Records.{wholeRecords};
-ghost use Rattle.files.specs.Files.{laidOut, tailSound, recordsSound, sound4};
-ghost use Rattle.files.specs.Streams.{Mapped, Opens, streamIn, storedAt, streamAt};
-ghost use Rattle.files.specs.Spots.{wholeOf};
-ghost use Rattle.files.specs.Verdict.{soundAt, checkedOf};
+use records::record::Counted;
+use records::record::walk;
+use records::stream::stream_byte;
+use volume::directory::contiguous;
+use volume::directory::entry_of;
+use volume::directory::record_length;
+use volume::directory::start;
+use volume::directory::unused;
+use volume::locate::Layout;
+use volume::locate::Where;
 
 /// Sound or not, and the number of free sectors, 0 if not sound.
 pub struct Checked {
@@ -61,7 +66,8 @@ fn tail_zero(img: &[u8], map: &[u16], e: usize) -> bool
 
 fn content_sound(img: &[u8], map: &[u16], l: usize, e: usize) -> bool
     requires { ⌜ Mapped (now img) (now map) × (e ≤ 256 * length (now map)) ⌝ }
-    ensures { λ r. ⌜ r ≡ zeros (drop e (laidOut (now (img .entry)) (now (map .entry)))) and wholeRecords l (streamIn (now (img .entry)) (now (map .entry)) e) ⌝ }
+    ensures { λ r. ⌜ r ≡ zeros (drop e (laidOut (now (img .entry)) (now (map .entry))))
+        and wholeRecords l (streamIn (now (img .entry)) (now (map .entry)) e) ⌝ }
 {
     if tail_zero(img, map, e) {
         return is_whole(walk(img, map, l, e));
@@ -72,9 +78,10 @@ fn content_sound(img: &[u8], map: &[u16], l: usize, e: usize) -> bool
 // The file of the access block in sector s, with records of length l.
 fn stream_sound(img: &[u8], s: usize, l: usize) -> bool
     requires { ⌜ Opens (now img) s ⌝ }
-    ensures { λ r. ⌜ r ≡ zeros (drop (streamLength (sector s (now (img .entry)))) (storedAt (now (img .entry)) s)) and wholeRecords l (streamAt (now (img .entry)) s) ⌝ }
+    ensures { λ r. ⌜ r ≡ zeros (drop (streamLength (sector s (now (img .entry)))) (storedAt (now (img .entry)) s))
+        and wholeRecords l (streamAt (now (img .entry)) s) ⌝ }
 {
-    let mut map = [0u16; 2048];
+    let mut map = [0u16; MOST_SECTORS];
     let n = load_map(img, s, &mut map);
     let e = stream_end(img, s);
     content_sound(img, &map[..n], l, e)
@@ -91,11 +98,11 @@ pub fn file_sound(img: &[u8], e: &[u8]) -> bool
     if contiguous(e) {
         return true;
     }
-    stream_sound(img, word_at(e, 26), word_at(e, 24))
+    stream_sound(img, start(e), record_length(e))
 }
 
 /// Are all files' tails and records sound?
-pub fn contents_sound(img: &[u8], p: Places) -> bool
+pub fn contents_sound(img: &[u8], p: Layout) -> bool
     requires { ⌜ Located (now img) p × (sound3 (now img) ≡ true) × (distinct (allOwned (now img)) ≡ true) ⌝ }
     ensures { λ r. ⌜ r ≡ sound4 (now (img .entry)) ⌝ }
 {

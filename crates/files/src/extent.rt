@@ -1,26 +1,27 @@
 // How far a file goes, and where its records are, by its directory slot.
-use crate::record::Counted;
-use crate::record::Spot;
-use crate::record::find_record;
-use crate::record::walk;
+ghost use mathlib.Core.Path.{_≡_};
+ghost use Rattle.records.specs.Code.Spots.{countOf, spotOf};
+ghost use mathlib.Core.Bool.{true, false};
+ghost use lib.ListN.{length};
+ghost use Rattle.records.specs.Records.{wholeRecords, recordsOf};
+ghost use Rattle.files.specs.Files.{stream, extent};
+ghost use Rattle.files.specs.Code.Opens.{Opens, streamAt};
+ghost use Prim.Native.Nat.{_≤_};
+ghost use Rattle.numbers.specs.Numbers.{recordLimit};
+ghost use Rattle.volume.specs.Directory.{entryAt, contiguous, recordLength};
+ghost use Rattle.files.specs.Code.Slots.{InUse};
+use crate::map::load_map;
+use crate::map::stream_end;
 use crate::slot::is_contiguous;
 use crate::slot::record_length;
 use crate::slot::sectors_in;
 use crate::slot::start_of;
-use crate::stream::load_map;
-use crate::stream::stream_end;
-use ownership::volume::Places;
-ghost use mathlib.Core.Path.{_≡_};
-ghost use mathlib.Core.Bool.{true, false};
-ghost use Prim.Native.Nat.{_≤_};
-ghost use lib.ListN.{length};
-ghost use Rattle.ownership.specs.Numbers.{recordLimit};
-ghost use Rattle.ownership.specs.Directory.{entryAt, contiguous, recordLength};
-ghost use Rattle.files.specs.Records.{wholeRecords, recordsOf};
-ghost use Rattle.files.specs.Files.{stream, extent};
-ghost use Rattle.files.specs.Streams.{Opens, streamAt};
-ghost use Rattle.files.specs.Spots.{spotOf, countOf};
-ghost use Rattle.files.specs.Slots.{InUse};
+use numbers::MOST_SECTORS;
+use records::record::Counted;
+use records::record::Spot;
+use records::record::find_record;
+use records::record::walk;
+use volume::locate::Layout;
 
 fn count_of(c: Counted) -> usize
     ensures { λ r. ⌜ r ≡ countOf c ⌝ }
@@ -40,7 +41,7 @@ fn count_stream(img: &[u8], s: usize, l: usize) -> usize
     if l != 0 {
         return e / l;
     }
-    let mut map = [0u16; 2048];
+    let mut map = [0u16; MOST_SECTORS];
     let n = load_map(img, s, &mut map);
     count_of(walk(img, &map[..n], l, e))
 }
@@ -50,13 +51,13 @@ fn find_stream(img: &[u8], s: usize, l: usize, i: usize) -> Spot
     ensures { λ r. ⌜ r ≡ spotOf l (streamAt (now (img .entry)) s) i ⌝ }
 {
     let e = stream_end(img, s);
-    let mut map = [0u16; 2048];
+    let mut map = [0u16; MOST_SECTORS];
     let n = load_map(img, s, &mut map);
     find_record(img, &map[..n], l, e, i)
 }
 
 /// How far the file in slot k goes: in sectors if contiguous, in records if sequential.
-pub fn extent_of(img: &[u8], p: Places, k: usize) -> usize
+pub fn extent_of(img: &[u8], p: Layout, k: usize) -> usize
     requires { ⌜ InUse (now img) p k ⌝ }
     ensures { λ r. ⌜ r ≡ extent (now (img .entry)) (entryAt (now (img .entry)) k) ⌝ }
 {
@@ -67,9 +68,10 @@ pub fn extent_of(img: &[u8], p: Places, k: usize) -> usize
 }
 
 /// Where in its stream the data of record i of the sequential file in slot k lies.
-pub fn record_of(img: &[u8], p: Places, k: usize, i: usize) -> Spot
+pub fn record_of(img: &[u8], p: Layout, k: usize, i: usize) -> Spot
     requires { ⌜ InUse (now img) p k × (contiguous (entryAt (now img) k) ≡ false) ⌝ }
-    ensures { λ r. ⌜ r ≡ spotOf (recordLength (entryAt (now (img .entry)) k)) (stream (now (img .entry)) (entryAt (now (img .entry)) k)) i ⌝ }
+    ensures { λ r. ⌜ r ≡ spotOf (recordLength (entryAt (now (img .entry)) k))
+        (stream (now (img .entry)) (entryAt (now (img .entry)) k)) i ⌝ }
 {
     find_stream(img, start_of(img, p, k), record_length(img, p, k), i)
 }

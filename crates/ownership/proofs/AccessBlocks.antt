@@ -1,26 +1,25 @@
 -- An access block that `blockOf` makes reads back, and a well-formed one is what `blockOf` makes of its parts.
-use mathlib.Core.Path.{_≡_, refl, ap, sym, _∙_}
-use mathlib.Core.Bool.{true}
 use mathlib.Core.List.{List, [], _∷_, _++_, append-assoc}
-use Prim.Native.Nat.{ℕ, zero, suc, _+_, _*_, _-_, _/_, _%_, _≤_, _<_}
+use mathlib.Core.Path.{_≡_, refl, _∙_, ap, sym}
+use mathlib.Core.Bool.{true}
+use Prim.Native.Nat.{ℕ, _+_, _*_, _/_, _%_, _-_, _≤_, zero, suc, _<_}
 use native.Mathlib.Omega.{arith}
-use lib.ListN.{length, getD, take, drop, length-append, length-drop, length-take, take-append-drop, replicate}
-use lib.Seq.{getD-take, getD-drop, take-add, take-at, drop-at, drop-drop, drop-cons}
+use lib.ListN.{length, length-append, drop, take, length-drop, length-take, take-append-drop, replicate, getD}
+use lib.Seq.{take-at, drop-at, drop-drop, take-add, drop-cons}
 use borrow.Author.Tests.{eqb-true, eq-eqb}
-use Rattle.ownership.specs.Bytes.{_and_, byte, word, bytes2, part, blanks, filled, pieces, all, flat, zeros}
-use Rattle.ownership.specs.Blocks.{segStart, segLength, segments, total, streamLength, pairs, blockOf}
-use Rattle.ownership.specs.Shapes.{fours, BlockShaped}
-use Rattle.ownership.proofs.Pieces.{getD-pieces}
-use Rattle.ownership.proofs.Put.{length-blanks}
-use Rattle.ownership.proofs.Tests.{and-left, and-right, both-true, zeros-are}
-use Rattle.ownership.proofs.Entries.{length-pieces}
-use Rattle.ownership.proofs.Marks.{Bytes}
+use Rattle.numbers.specs.Numbers.{mostSegments}
+use Rattle.lists.specs.Lists.{flat, all, pieces}
+use Rattle.lists.specs.Parts.{filled, bytes2, blanks, byte, word, part}
+use Rattle.lists.proofs.Tests.{and-left, and-right, both-true, zeros-are, zeros-blanks}
+use Rattle.lists.proofs.Puts.{length-blanks}
+use Rattle.lists.proofs.AreBytes.{Bytes}
+use Rattle.lists.proofs.Pieces.{getD-pieces, length-pieces}
+use Rattle.lists.proofs.LentParts.{byte-part, word-back}
+use Rattle.ownership.specs.Blocks.{segments, blockOf, total, streamLength, pairs, segStart, segLength}
+use Rattle.ownership.specs.Code.Shapes.{fours, BlockShaped}
 
 abbrev pub joined : List (List ℕ) → List ℕ
 joined ps = flat (λ p. p) ps
-
-word-back : (w : ℕ) → 256 * (w / 256) + w % 256 ≡ w
-word-back w = omega arith
 
 pub segments-blockOf : (ps : List (List ℕ)) (n e : ℕ) → segments (blockOf ps n e) ≡ length ps
 unfolding blockOf filled
@@ -54,7 +53,7 @@ blockOf-parts ps n e h =
     let l : 256 - length (front (length ps) n e ++ joined ps) ≡ 248 - 4 * length ps = omega (arith, length-joined ps h) in
     ap (λ (k : ℕ). front (length ps) n e ++ (joined ps ++ blanks k)) l
 
-pub length-blockOf : (ps : List (List ℕ)) (n e : ℕ) → fours ps ≡ true → length ps ≤ 62 → length (blockOf ps n e) ≡ 256
+pub length-blockOf : (ps : List (List ℕ)) (n e : ℕ) → fours ps ≡ true → length ps ≤ mostSegments → length (blockOf ps n e) ≡ 256
 length-blockOf ps n e h l =
     let m = length-append (joined ps) (blanks (248 - 4 * length ps)) in
     omega (arith, ap length (blockOf-parts ps n e h), m, length-joined ps h, length-blanks (248 - 4 * length ps))
@@ -75,14 +74,10 @@ pairs-blockOf ps n e h = rw (segments-blockOf ps n e, blockOf-parts ps n e h) (p
 pub rest-blockOf : (ps : List (List ℕ)) (n e : ℕ) → fours ps ≡ true → drop (8 + 4 * length ps) (blockOf ps n e) ≡ blanks (248 - 4 * length ps)
 rest-blockOf ps n e h =
     rw (blockOf-parts ps n e h)
-    (sym (drop-drop (4 * length ps) 8 (front (length ps) n e ++ (joined ps ++ blanks (248 - 4 * length ps)))) ∙ drop-at (joined ps) (blanks (248 - 4 * length ps)) (4 * length ps) (length-joined ps h))
+    (sym (drop-drop (4 * length ps) 8 (front (length ps) n e ++ (joined ps ++ blanks (248 - 4 * length ps))))
+    ∙ drop-at (joined ps) (blanks (248 - 4 * length ps)) (4 * length ps) (length-joined ps h))
 
-zeros-blanks : (n : ℕ) → zeros (blanks n) ≡ true
-unfolding blanks all _and_
-zeros-blanks zero = refl
-zeros-blanks (suc n) = zeros-blanks n
-
-pub shaped-blockOf : (ps : List (List ℕ)) (n e : ℕ) → fours ps ≡ true → length ps ≤ 62 → BlockShaped (blockOf ps n e)
+pub shaped-blockOf : (ps : List (List ℕ)) (n e : ℕ) → fours ps ≡ true → length ps ≤ mostSegments → BlockShaped (blockOf ps n e)
 shaped-blockOf ps n e h l = record {
   whole = length-blockOf ps n e h l;
   few = rw (segments-blockOf ps n e) l;
@@ -112,7 +107,8 @@ heads f = byte f 0 ∷ byte f 1 ∷ byte f 2 ∷ byte f 3 ∷ byte f 4 ∷ byte 
 eight : (f : List ℕ) → 8 ≤ length f → f ≡ heads f ++ drop 8 f
 eight f h =
     drop-cons f 0 0 (omega arith) ∙ ap (λ (l : List ℕ). byte f 0 ∷ l) (drop-cons f 1 0 (omega arith) ∙ ap (λ (l : List ℕ). byte f 1 ∷ l) (drop-cons f 2 0 (omega arith)
-    ∙ ap (λ (l : List ℕ). byte f 2 ∷ l) (drop-cons f 3 0 (omega arith) ∙ ap (λ (l : List ℕ). byte f 3 ∷ l) (drop-cons f 4 0 (omega arith) ∙ ap (λ (l : List ℕ). byte f 4 ∷ l) (drop-cons f 5 0 (omega arith)
+    ∙ ap (λ (l : List ℕ). byte f 2 ∷ l) (drop-cons f 3 0 (omega arith)
+    ∙ ap (λ (l : List ℕ). byte f 3 ∷ l) (drop-cons f 4 0 (omega arith) ∙ ap (λ (l : List ℕ). byte f 4 ∷ l) (drop-cons f 5 0 (omega arith)
     ∙ ap (λ (l : List ℕ). byte f 5 ∷ l) (drop-cons f 6 0 (omega arith) ∙ ap (λ (l : List ℕ). byte f 6 ∷ l) (drop-cons f 7 0 (omega arith))))))))
 
 pub bytes2-word : (x y : ℕ) → y < 256 → bytes2 (256 * x + y) ≡ x ∷ y ∷ []
@@ -154,7 +150,8 @@ module _ (f : List ℕ) (s : BlockShaped f) where
       let d : drop (4 * k) (drop 8 f) ≡ drop (8 + 4 * k) f = drop-drop (4 * k) 8 f in
       let z : drop (8 + 4 * k) f ≡ replicate (length (drop (8 + 4 * k) f)) 0 = zeros-are (drop (8 + 4 * k) f) (s .rest) in
       let n : length (drop (8 + 4 * k) f) ≡ 248 - 4 * length (pairs f) = length-drop (8 + 4 * k) f ∙ omega (arith, s .whole, length-pairs) in
-      sym (take-append-drop (4 * k) (drop 8 f)) ∙ ap (λ (l : List ℕ). take (4 * k) (drop 8 f) ++ l) (d ∙ z ∙ ap (λ (m : ℕ). replicate m 0) n) ∙ ap (λ (l : List ℕ). l ++ blanks (248 - 4 * length (pairs f))) (sym j)
+      sym (take-append-drop (4 * k) (drop 8 f)) ∙ ap (λ (l : List ℕ). take (4 * k) (drop 8 f) ++ l) (d ∙ z ∙ ap (λ (m : ℕ). replicate m 0) n)
+      ∙ ap (λ (l : List ℕ). l ++ blanks (248 - 4 * length (pairs f))) (sym j)
 
   pub block-is : Bytes f → f ≡ blockOf (pairs f) (total f) (streamLength f)
   block-is b =
@@ -165,10 +162,6 @@ module _ (f : List ℕ) (s : BlockShaped f) where
       ∙ sym (blockOf-parts (pairs f) (total f) (streamLength f) fours-pairs)
 
 -- the words of a pair, where the block has them
-pub byte-part : (i n : ℕ) (l : List ℕ) (j : ℕ) → j < n → byte (part i n l) j ≡ byte l (i + j)
-unfolding part
-byte-part i n l j h = getD-take n (drop i l) j 0 h ∙ getD-drop i l j 0
-
 module _ (f : List ℕ) (i : ℕ) (h : i < segments f) where
   pub pair-at : getD (pairs f) i [] ≡ part (8 + 4 * i) 4 f
   unfolding pairs part

@@ -1,21 +1,21 @@
 -- The tests of an access block, pair by pair.
 use mathlib.Core.Path.{_≡_}
-use mathlib.Core.Bool.{Bool, true, false, _&&_}
 use mathlib.Core.List.{List, [], map}
-use Prim.Native.Nat.{ℕ, _+_, _*_, _-_, _/_, _≤_, _<_}
+use mathlib.Core.Bool.{Bool, false, true, _&&_}
+use Prim.Native.Nat.{ℕ, _+_, _<_, _≤_, _*_, _/_, _-_}
 use native.Mathlib.Numerals.{add-one}
 use native.Mathlib.Omega.{arith}
-use lib.ListN.{length, getD, take, drop, length-drop, drop-of-length-le}
+use lib.ListN.{length, getD, drop, drop-of-length-le, take, length-drop}
 use lib.Seq.{drop-cons, take-all}
-use lib.Dec.{eqb, leb}
-use borrow.Author.Tests.{le-leb, lt-leb, lt-ltb, le-ltb}
-use Rattle.ownership.specs.Bytes.{_and_, word, all, sum, zeros, inSectors, sector}
-use Rattle.ownership.specs.Blocks.{segments, total, streamLength, pairs, segLength, segmentSound, blockSound, placed, block}
-use Rattle.ownership.specs.Volume.{sectors}
-use Rattle.ownership.specs.Directory.{unused, contiguous, start, size}
-use Rattle.ownership.proofs.Entries.{length-pieces}
-use Rattle.ownership.proofs.AccessBlocks.{segStart-at, segLength-at}
-use Rattle.ownership.proofs.Bools.{and-is}
+use lib.Dec.{leb, eqb}
+use borrow.Author.Tests.{lt-leb, le-leb, lt-ltb, le-ltb}
+use Rattle.numbers.specs.Numbers.{mostSegments}
+use Rattle.lists.specs.Lists.{sum, _and_, all}
+use Rattle.lists.specs.Parts.{zeros, inSectors, sectors, sector}
+use Rattle.lists.proofs.Bools.{and-is}
+use Rattle.lists.proofs.Pieces.{length-pieces}
+use Rattle.volume.specs.Directory.{unused, contiguous, start, size}
+use Rattle.ownership.specs.Blocks.{segStart, segLength, segments, pairs, segmentSound, blockSound, total, streamLength, placed, block}
 
 -- a sum, one element at a time
 pub sum-more : (ps : List (List ℕ)) (i : ℕ) → i < length ps
@@ -25,11 +25,10 @@ sum-more ps i h = rw (add-one i, drop-cons ps i [] h)
 pub sum-end : (ps : List (List ℕ)) (i : ℕ) → length ps ≤ i → sum (map (λ p. segLength p) (drop i ps)) ≡ 0
 sum-end ps i h = rw (drop-of-length-le ps h)
 
--- pair i, by its two words
-pub segment-at : (t : ℕ) (f : List ℕ) (i s n : ℕ) → i < segments f → s ≡ word f (8 + 4 * i) → n ≡ word f (10 + 4 * i)
-    → segmentSound t (getD (pairs f) i []) ≡ leb 1 n and leb (s + n) t
+-- a pair, by its two words
+pub segment-at : (t : ℕ) (p : List ℕ) (s n : ℕ) → s ≡ segStart p → n ≡ segLength p → segmentSound t p ≡ leb 1 n and leb (s + n) t
 unfolding segmentSound
-segment-at t f i s n h es en = rw (segStart-at f i h, segLength-at f i h, es, en)
+segment-at t p s n es en = rw (es, en)
 
 pub pairs-length : (f : List ℕ) → length (pairs f) ≡ segments f
 unfolding pairs
@@ -46,17 +45,17 @@ in-turn x true false t e h = rw h
 in-turn x false s t e h = rw h
 
 -- the whole block
-pub block-many : (t : ℕ) (f : List ℕ) (n : ℕ) → n ≡ segments f → 62 < n → false ≡ blockSound t f
+pub block-many : (t : ℕ) (f : List ℕ) (n : ℕ) → n ≡ segments f → mostSegments < n → false ≡ blockSound t f
 unfolding blockSound _and_
-block-many t f n e h = rw (← e, lt-leb n 62 h)
+block-many t f n e h = rw (← e, lt-leb n mostSegments h)
 
-pub block-few : (t : ℕ) (f : List ℕ) (n m e : ℕ) (a b : Bool) → n ≡ segments f → n ≤ 62 → a ≡ zeros (drop (8 + 4 * n) f)
+pub block-few : (t : ℕ) (f : List ℕ) (n m e : ℕ) (a b : Bool) → n ≡ segments f → n ≤ mostSegments → a ≡ zeros (drop (8 + 4 * n) f)
     → b ≡ all (segmentSound t) (pairs f) and eqb (sum (map (λ p. segLength p) (pairs f))) (total f) → m ≡ total f → e ≡ streamLength f
     → (a && b) && eqb m ((e + 255) / 256) ≡ blockSound t f
 unfolding blockSound inSectors
 block-few t f n m e a b en h ea eb em ee =
-    let l : segments f ≤ 62 = omega arith in
-    rw (ea, eb, em, ee, en) (in-turn _ _ _ _ _ (le-leb (segments f) 62 l))
+    let l : segments f ≤ mostSegments = omega arith in
+    rw (ea, eb, em, ee, en) (in-turn _ _ _ _ _ (le-leb (segments f) mostSegments l))
 
 -- the sectors of an image of whole sectors
 pub sectors-are : (img : List ℕ) (t : ℕ) → length img ≡ 256 * t → sectors img ≡ t

@@ -1,19 +1,20 @@
 -- What the words that a writer stores in a well-formed access block make of it.
 use mathlib.Core.Path.{_≡_, refl, ap, sym, _∙_}
-use mathlib.Core.Bool.{true, false}
+use mathlib.Core.Bool.{false, true}
 use mathlib.Core.List.{List, [], _∷_, _++_}
-use Prim.Native.Nat.{ℕ, _+_, _*_, _-_, _/_, _%_, _≤_, _<_}
+use Prim.Native.Nat.{ℕ, _≤_, _+_, _*_, _-_, _/_, _%_, _<_}
 use native.Mathlib.Omega.{arith}
 use lib.ListN.{length, getD, length-append}
 use lib.Dec.{eqb}
-use Rattle.ownership.specs.Bytes.{byte, word, bytes2, put}
+use Rattle.numbers.specs.Numbers.{mostSegments}
+use Rattle.lists.specs.Parts.{byte, word, bytes2, put}
+use Rattle.lists.proofs.LentParts.{put-next}
+use Rattle.lists.proofs.AreBytes.{Bytes}
+use Rattle.ownership.specs.Code.Shapes.{follows, BlockShaped, pair, lastPair, lengthened}
 use Rattle.ownership.specs.Blocks.{segments, total, streamLength, pairs, segStart, segLength, extended, blockOf}
-use Rattle.ownership.specs.Shapes.{BlockShaped, pair, lastPair, follows, lengthened}
-use Rattle.ownership.proofs.Lent.{put-next}
-use Rattle.ownership.proofs.Marks.{Bytes}
-use Rattle.ownership.proofs.AccessBlocks.{fours-pairs, length-pairs, block-is, second-at, segStart-at, segLength-at}
+use Rattle.ownership.proofs.AccessBlocks.{fours-pairs, length-pairs, block-is, second-at, segLength-at}
 use Rattle.ownership.proofs.Segments.{extended-new}
-use Rattle.ownership.proofs.Extending.{put-total, put-streamLength, put-new, put-longer, follows-last}
+use Rattle.ownership.proofs.BlockExtended.{put-total, put-streamLength, put-new, put-longer, follows-last}
 
 follows-none : (ps : List (List ℕ)) (s : ℕ) → length ps ≡ 0 → false ≡ follows ps s
 unfolding follows
@@ -39,18 +40,19 @@ module _ (f : List ℕ) (sh : BlockShaped f) where
   pub joins-none : (k s : ℕ) → k ≡ segments f → k ≡ 0 → false ≡ follows (pairs f) s
   joins-none k s e z = follows-none (pairs f) s (length-pairs f sh ∙ sym e ∙ z)
 
-  pub joins-at : (k s st len : ℕ) → k ≡ segments f → (k ≡ 0 → ⊥) → st ≡ word f (8 + 4 * (k - 1)) → len ≡ word f (10 + 4 * (k - 1)) → eqb (st + len) s ≡ follows (pairs f) s
+  pub joins-at : (k s st len : ℕ) → k ≡ segments f → (k ≡ 0 → ⊥) → st ≡ segStart (getD (pairs f) (k - 1) []) → len ≡ segLength (getD (pairs f) (k - 1) [])
+      → eqb (st + len) s ≡ follows (pairs f) s
   joins-at k s st len e nz es el =
       let l = length-pairs f sh in
-      let a : segStart (lastPair (pairs f)) ≡ st = ap segStart last-is ∙ segStart-at f (segments f - 1) (omega arith) ∙ sym (es ∙ ap (λ (q : ℕ). word f (8 + 4 * (q - 1))) e) in
-      let b : segLength (lastPair (pairs f)) ≡ len = ap segLength last-is ∙ segLength-at f (segments f - 1) (omega arith) ∙ sym (el ∙ ap (λ (q : ℕ). word f (10 + 4 * (q - 1))) e) in
+      let a : segStart (lastPair (pairs f)) ≡ st = ap segStart last-is ∙ sym (es ∙ ap (λ (q : ℕ). segStart (getD (pairs f) (q - 1) [])) e) in
+      let b : segLength (lastPair (pairs f)) ≡ len = ap segLength last-is ∙ sym (el ∙ ap (λ (q : ℕ). segLength (getD (pairs f) (q - 1) [])) e) in
       sym (follows-last (pairs f) s (omega arith) ∙ rw (a, b))
 
   pub joins-some : (s : ℕ) → follows (pairs f) s ≡ true → 1 ≤ segments f
   joins-some s h = let l = length-pairs f sh in let m = follows-some (pairs f) s h in omega arith
 
   -- a sector that does not follow takes a new pair
-  pub room-new : (s : ℕ) → follows (pairs f) s ≡ false → length (extended (pairs f) s) ≤ 62 → segments f < 62
+  pub room-new : (s : ℕ) → follows (pairs f) s ≡ false → length (extended (pairs f) s) ≤ mostSegments → segments f < mostSegments
   room-new s h l =
       let m = length-pairs f sh in
       let e = ap length (extended-new (pairs f) s h) in
@@ -63,7 +65,8 @@ module _ (f : List ℕ) (sh : BlockShaped f) where
         ∙ ap (put 4 (bytes2 (e / 65536) ++ bytes2 (e % 65536))) (put-total (pairs f) (total f) (streamLength f) n)
         ∙ put-streamLength (pairs f) n (streamLength f) e
 
-    pub wrote-longer : (x : List ℕ) (k w : ℕ) → k ≡ segments f → 1 ≤ segments f → w ≡ word f (6 + 4 * k) → x ≡ put (6 + 4 * k) (bytes2 (w + 1)) f → x ≡ blockOf (lengthened (pairs f)) (total f) (streamLength f)
+    pub wrote-longer : (x : List ℕ) (k w : ℕ) → k ≡ segments f → 1 ≤ segments f → w ≡ word f (6 + 4 * k) → x ≡ put (6 + 4 * k) (bytes2 (w + 1)) f
+        → x ≡ blockOf (lengthened (pairs f)) (total f) (streamLength f)
     wrote-longer x k w e h ew q =
         let l = length-pairs f sh in
         let i : 6 + 4 * k ≡ 6 + 4 * length (pairs f) = omega arith in
@@ -73,7 +76,7 @@ module _ (f : List ℕ) (sh : BlockShaped f) where
         ∙ ap (put (6 + 4 * length (pairs f)) (bytes2 (segLength (lastPair (pairs f)) + 1))) (block-is f sh b)
         ∙ put-longer (pairs f) (total f) (streamLength f) (fours-pairs f sh) (omega arith) y
 
-    pub wrote-new : (x : List ℕ) (k s : ℕ) → k ≡ segments f → segments f < 62 → x ≡ put 0 (bytes2 (k + 1)) (put (8 + 4 * k + 2) (bytes2 1) (put (8 + 4 * k) (bytes2 s) f))
+    pub wrote-new : (x : List ℕ) (k s : ℕ) → k ≡ segments f → segments f < mostSegments → x ≡ put 0 (bytes2 (k + 1)) (put (8 + 4 * k + 2) (bytes2 1) (put (8 + 4 * k) (bytes2 s) f))
         → x ≡ blockOf (pairs f ++ (pair s 1 ∷ [])) (total f) (streamLength f)
     wrote-new x k s e h q =
         let l = length-pairs f sh in

@@ -1,20 +1,22 @@
 -- What claims mean: over marks that are 0 below t, a list of numbers below t is claimed where none stands in it twice, and then exactly
 -- its members are marked, so that the marks from t on being 1 make the table of `satOf`.
-use mathlib.Core.Path.{_≡_, refl, sym, ap, _∙_}
 use mathlib.Core.Bool.{Bool, true, false, not}
 use mathlib.Core.List.{List, [], _∷_, _++_, map}
-use Prim.Native.Nat.{ℕ, zero, suc, _<_, _≤_, _+_, _-_, _*_}
+use mathlib.Core.Path.{_≡_, refl, sym, _∙_, ap}
+use Prim.Native.Nat.{ℕ, _<_, _≤_, zero, suc, _+_, _-_, _*_}
 use native.Mathlib.Decide.{ℕ-discrete, decLt}
 use native.Mathlib.Omega.{arith}
-use borrow.Author.Tests.{eq-eqb, ne-eqb, ltb-true, lt-ltb, le-leb, lt-leb}
-use lib.Dec.{eqb, ltb}
-use lib.ListN.{length, getD, set, length-set, replicate, length-replicate, getD-replicate, length-append, List·getD-append}
+use lib.Dec.{ltb, eqb}
+use lib.ListN.{getD, length, set, length-set, replicate, length-replicate, getD-replicate, length-append, List·getD-append}
 use lib.Seq.{getD-set-same, getD-set-other, getD-append-add}
-use Rattle.ownership.specs.Bytes.{_and_, _or_, if_then_else_, blanks, byte, range, all, among, distinct}
-use Rattle.ownership.specs.Owners.{one, owns, packed, satOf}
-use Rattle.ownership.specs.Claims.{claim, claimed, fresh, weighed, tableOf}
-use Rattle.ownership.proofs.Tests.{and-left, and-right, both-true}
-use Rattle.ownership.proofs.Put.{length-blanks}
+use borrow.Author.Tests.{eq-eqb, ne-eqb, ltb-true, lt-ltb, le-leb, lt-leb}
+use Rattle.numbers.specs.Numbers.{mostSectors}
+use Rattle.lists.specs.Lists.{all, _and_, _or_, among, distinct, if_then_else_, range}
+use Rattle.lists.specs.Parts.{blanks, byte}
+use Rattle.lists.proofs.Tests.{and-left, and-right, both-true}
+use Rattle.lists.proofs.Puts.{length-blanks}
+use Rattle.volume.specs.Sat.{one, owns, packed, satOf}
+use Rattle.ownership.specs.Code.Claims.{claim, claimed, fresh, weighed, tableOf}
 
 -- each of the list lies below n
 abbrev pub within : ℕ → List ℕ → Bool
@@ -64,7 +66,10 @@ claim-is : (m xs : List ℕ) → within (length m) xs ≡ true → claim m xs �
 unfolding claim allFree all distinct _and_
 claim-is m [] h = refl
 claim-is m (x ∷ xs) h =
-    rw (claim-is (set m x 1) xs (within-set m x xs (and-right (ltb x (length m)) (within (length m) xs) h)), all-set m x xs (ltb-true x (length m) (and-left (ltb x (length m)) (within (length m) xs) h)))
+    rw (
+      claim-is (set m x 1) xs (within-set m x xs (and-right (ltb x (length m)) (within (length m) xs) h)),
+      all-set m x xs (ltb-true x (length m) (and-left (ltb x (length m)) (within (length m) xs) h)),
+    )
     (swap (eqb (getD m x 0) 0) (allFree m xs) (among x xs) (distinct xs))
 
 -- what is marked afterwards
@@ -89,24 +94,24 @@ unfolding all
 within-more n m [] h p = refl
 within-more n m (x ∷ xs) h p = let q : x < n = ltb-true _ _ (and-left _ _ p) in both-true _ _ (lt-ltb x m (omega arith)) (within-more n m xs h (and-right _ _ p))
 
-module _ (t : ℕ) (high : t ≤ 2048) where
-  pub length-fresh : length (fresh t) ≡ 2048
+module _ (t : ℕ) (high : t ≤ mostSectors) where
+  pub length-fresh : length (fresh t) ≡ mostSectors
   unfolding fresh
-  length-fresh = length-append (blanks t) (replicate (2048 - t) 1) ∙ omega (arith, length-blanks t, length-replicate {A = ℕ} (2048 - t) 1)
+  length-fresh = length-append (blanks t) (replicate (mostSectors - t) 1) ∙ omega (arith, length-blanks t, length-replicate {A = ℕ} (mostSectors - t) 1)
 
   fresh-low : (s : ℕ) → s < t → getD (fresh t) s 0 ≡ 0
   unfolding fresh blanks
   fresh-low s h =
       let l : length {A = ℕ} (replicate t 0) ≡ t = length-replicate {A = ℕ} t 0 in
-      List·getD-append (replicate t 0) (replicate (2048 - t) 1) 0 s (omega arith) ∙ getD-replicate {A = ℕ} t s 0 0 h
+      List·getD-append (replicate t 0) (replicate (mostSectors - t) 1) 0 s (omega arith) ∙ getD-replicate {A = ℕ} t s 0 0 h
 
-  fresh-high : (s : ℕ) → t ≤ s → s < 2048 → getD (fresh t) s 0 ≡ 1
+  fresh-high : (s : ℕ) → t ≤ s → s < mostSectors → getD (fresh t) s 0 ≡ 1
   unfolding fresh blanks
   fresh-high s h g =
       let l : length {A = ℕ} (replicate t 0) ≡ t = length-replicate {A = ℕ} t 0 in
       let e : s ≡ length {A = ℕ} (replicate t 0) + (s - t) = omega arith in
-      ap (λ (k : ℕ). getD (replicate t 0 ++ replicate (2048 - t) 1) k 0) e
-      ∙ getD-append-add (replicate t 0) (replicate (2048 - t) 1) (s - t) 0 ∙ getD-replicate {A = ℕ} (2048 - t) (s - t) 1 0 (omega arith)
+      ap (λ (k : ℕ). getD (replicate t 0 ++ replicate (mostSectors - t) 1) k 0) e
+      ∙ getD-append-add (replicate t 0) (replicate (mostSectors - t) 1) (s - t) 0 ∙ getD-replicate {A = ℕ} (mostSectors - t) (s - t) 1 0 (omega arith)
 
   fresh-free : (xs : List ℕ) → within t xs ≡ true → allFree (fresh t) xs ≡ true
   unfolding allFree all
@@ -116,13 +121,13 @@ module _ (t : ℕ) (high : t ≤ 2048) where
 
   module _ (xs : List ℕ) (h : within t xs ≡ true) where
     inside : within (length (fresh t)) xs ≡ true
-    inside = rw length-fresh (within-more t 2048 xs high h)
+    inside = rw length-fresh (within-more t mostSectors xs high h)
 
     pub claim-fresh : claim (fresh t) xs ≡ distinct xs
     unfolding _and_
     claim-fresh = rw (claim-is (fresh t) xs inside, fresh-free xs h)
 
-    mark-is : (s : ℕ) → s < 2048 → byte (claimed (fresh t) xs) s ≡ one (owns t xs s)
+    mark-is : (s : ℕ) → s < mostSectors → byte (claimed (fresh t) xs) s ≡ one (owns t xs s)
     unfolding owns _or_
     mark-is s g = marked-is (fresh t) xs inside s ∙ elim (decLt s t) [
       | yes l ↦ rw (fresh-low s l, lt-leb t s l) (by (among s xs))
@@ -133,11 +138,19 @@ module _ (t : ℕ) (high : t ≤ 2048) where
         by true = refl
         by false = refl
 
-    weighed-is : (s : ℕ) → s + 8 ≤ 2048 → weighed (claimed (fresh t) xs) s ≡ packed (owns t xs) s
+    weighed-is : (s : ℕ) → s + 8 ≤ mostSectors → weighed (claimed (fresh t) xs) s ≡ packed (owns t xs) s
     unfolding weighed packed
     weighed-is s g =
-        rw
-        (mark-is s (omega arith), mark-is (s + 1) (omega arith), mark-is (s + 2) (omega arith), mark-is (s + 3) (omega arith), mark-is (s + 4) (omega arith), mark-is (s + 5) (omega arith), mark-is (s + 6) (omega arith), mark-is (s + 7) (omega arith))
+        rw (
+          mark-is s (omega arith),
+          mark-is (s + 1) (omega arith),
+          mark-is (s + 2) (omega arith),
+          mark-is (s + 3) (omega arith),
+          mark-is (s + 4) (omega arith),
+          mark-is (s + 5) (omega arith),
+          mark-is (s + 6) (omega arith),
+          mark-is (s + 7) (omega arith),
+        )
 
     rows : (i n : ℕ) → i + n ≤ 256 → map (λ k. weighed (claimed (fresh t) xs) (8 * k)) (range i n) ≡ map (λ k. packed (owns t xs) (8 * k)) (range i n)
     unfolding range

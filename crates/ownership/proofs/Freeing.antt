@@ -1,31 +1,28 @@
 -- What is freed of a file: run by run, and what its slot holds.
 use mathlib.Core.Path.{_≡_, refl, sym, _∙_}
-use mathlib.Core.Bool.{Bool, true, false}
-use mathlib.Core.List.{List, [], _∷_, _++_}
-use Prim.Native.Nat.{ℕ, _<_, _≤_, _+_, _-_, _*_}
+use mathlib.Core.List.{List, [], _∷_}
+use mathlib.Core.Bool.{true, false, Bool}
+use Prim.Native.Nat.{ℕ, _<_, _+_, _≤_, _*_, _-_}
 use native.Mathlib.Omega.{arith}
 use lib.ListN.{length, getD, drop}
-use Rattle.ownership.specs.Bytes.{part, sector, putSector, range, flat}
-use Rattle.ownership.specs.Volume.{satAt, sat}
-use Rattle.ownership.specs.Directory.{unused, contiguous, start, size}
-use Rattle.ownership.specs.Blocks.{segments, segment, sectorsOf, blockSound, placed}
-use Rattle.ownership.specs.Owners.{owned, withBit, withBits}
-use Rattle.ownership.specs.Free.{putSat}
-use Rattle.ownership.specs.Held.{heldBy}
-use Rattle.ownership.specs.Places.{Located}
-use Rattle.ownership.specs.declared.volume.Places.{Places}
-use Rattle.ownership.specs.declared.owners.Held.{Held}
-use Rattle.ownership.specs.declared.owners.Held.the-variants.{Nothing, Run, Chain}
-use Rattle.ownership.proofs.Claiming.{flat-cons, flat-end}
-use Rattle.ownership.proofs.Owning.{owned-none, owned-run, owned-chain, run-fits, chain-fits, chain-sound}
 use borrow.Rule.Slice.PartMut.{put-same}
-use Rattle.ownership.proofs.Put.{put-mid}
-use Rattle.ownership.proofs.Lent.{length-part}
-
-pub withBits-append : (v : ℕ) (b xs ys : List ℕ) → withBits v b (xs ++ ys) ≡ withBits v (withBits v b xs) ys
-unfolding withBits
-withBits-append v b [] ys = refl
-withBits-append v b (x ∷ xs) ys = withBits-append v (withBit v b x) xs ys
+use Rattle.lists.specs.Lists.{flat, range}
+use Rattle.lists.specs.Parts.{sector, part, putSector}
+use Rattle.lists.proofs.Puts.{put-mid}
+use Rattle.lists.proofs.LentParts.{length-part}
+use Rattle.volume.specs.Sat.{withBit, withBits, putSat}
+use Rattle.volume.specs.Directory.{unused, contiguous, start, size}
+use Rattle.volume.specs.Volume.{satAt, sat}
+use Rattle.volume.specs.Code.Located.{Located}
+use Rattle.volume.specs.declared.locate.Layout.{Layout}
+use Rattle.volume.proofs.BitsSet.{withBits-append}
+use Rattle.ownership.specs.Blocks.{segment, sectorsOf, blockSound, placed}
+use Rattle.ownership.specs.Code.Held.{heldBy}
+use Rattle.ownership.specs.declared.owners.Held.the-variants.{Nothing, Run, Chain}
+use Rattle.ownership.specs.Owners.{owned}
+use Rattle.ownership.specs.declared.owners.Held.{Held}
+use Rattle.ownership.proofs.ClaimsFollow.{flat-cons, flat-end}
+use Rattle.ownership.proofs.OwnedRuns.{owned-unused, owned-run, owned-chain, run-fits, chain-fits, chain-sound}
 
 -- a turn of the loop over the segments
 pub free-more : (v : ℕ) (b : List ℕ) (ps : List (List ℕ)) (i : ℕ) (xs : List ℕ) → i < length ps → xs ≡ segment (getD ps i [])
@@ -67,7 +64,7 @@ module _ (img e : List ℕ) (t : ℕ) (long : length img ≡ 256 * t) (h : place
 
   pub held-is-none : heldBy e ≡ Nothing → owned img e ≡ []
   held-is-none q =
-      by-cases (λ x. x ≡ Nothing → owned img e ≡ []) (λ u r. owned-none img e u) (λ u k r. absurd (let z : _≡_ {A = ℕ} 0 1 = cc in omega arith))
+      by-cases (λ x. x ≡ Nothing → owned img e ≡ []) (λ u r. owned-unused img e u) (λ u k r. absurd (let z : _≡_ {A = ℕ} 0 1 = cc in omega arith))
       (λ u k r. absurd (let z : _≡_ {A = ℕ} 0 1 = cc in omega arith)) q
 
   pub held-is-run : (s n : ℕ) → heldBy e ≡ Run s n → (s + n ≤ t) × (owned img e ≡ range s n)
@@ -89,7 +86,7 @@ module _ (img e : List ℕ) (t : ℕ) (long : length img ≡ 256 * t) (h : place
       (chain-fits img e t long h u s k es, chain-sound img e t long h u s k es, owned-chain img e s u k es)) q
 
 -- the image whose table was written, with the places that the code has
-module _ (img : List ℕ) (p : Places) (l : Located img p) where
+module _ (img : List ℕ) (p : Layout) (l : Located img p) where
   pub freed : (x xs ys : List ℕ) → x ≡ putSector (p .sat) (withBits 0 (sector (p .sat) img) xs) img → ys ≡ xs → x ≡ putSat img (withBits 0 (sat img) ys) img
   unfolding putSat sat
   freed x xs ys e q = e ∙ rw (q, l .is-sat)

@@ -1,24 +1,29 @@
 -- Point 5 of soundness, by the marks that the owners leave.
-use mathlib.Core.Path.{_≡_, refl, sym, ap, _∙_}
-use mathlib.Core.Bool.{Bool, true, false}
+use mathlib.Core.Path.{_≡_, _∙_, sym, ap, refl}
 use mathlib.Core.List.{List, _++_}
-use Prim.Native.Nat.{ℕ, _<_, _≤_, _+_, _-_, _*_}
+use mathlib.Core.Bool.{Bool, true, false}
+use Prim.Native.Nat.{ℕ, _<_, _*_, _≤_, _+_, _-_}
 use native.Mathlib.Nat.{zero-add, sub-zero}
 use native.Mathlib.Omega.{arith}
-use lib.ListN.{length, getD, drop, replicate, length-map, length-replicate, replicate-append-replicate}
+use lib.ListN.{length, length-map, getD, drop, replicate, length-replicate, replicate-append-replicate}
 use lib.Seq.{drop-at}
 use borrow.Rule.Slice.PartMut.{putMid}
-use Rattle.ownership.specs.Bytes.{_and_, flat, put, sector, blanks, range, distinct, same}
-use Rattle.ownership.specs.Volume.{dirs, sat, systemOf, system}
-use Rattle.ownership.specs.Directory.{entries}
+use Rattle.numbers.specs.Numbers.{mostSectors}
+use Rattle.lists.specs.Lists.{range, _and_, flat, distinct, same}
+use Rattle.lists.specs.Parts.{put, blanks, sector}
+use Rattle.lists.proofs.Puts.{length-blanks}
+use Rattle.lists.proofs.LentParts.{wrote}
+use Rattle.lists.proofs.Ranges.{length-range}
+use Rattle.volume.specs.Volume.{sat, systemOf, system}
+use Rattle.volume.proofs.Located.{places-are}
+use Rattle.volume.specs.Directory.{entries}
+use Rattle.volume.specs.Sat.{satOf}
+use Rattle.volume.specs.Code.Located.{Located}
+use Rattle.volume.specs.declared.locate.Layout.{Layout}
+use Rattle.volume.proofs.Bits.{getD-map-range}
+use Rattle.ownership.specs.Code.Claims.{tableOf, weighed, fresh, Claims}
 use Rattle.ownership.specs.Blocks.{sound3}
-use Rattle.ownership.specs.Owners.{owned, allOwned, satOf, sound5}
-use Rattle.ownership.specs.Places.{Located}
-use Rattle.ownership.specs.declared.volume.Places.{Places}
-use Rattle.ownership.specs.Claims.{Claims, fresh, weighed, tableOf}
-use Rattle.ownership.proofs.Put.{length-blanks}
-use Rattle.ownership.proofs.Bits.{getD-map-range, length-range}
-use Rattle.ownership.proofs.Lent.{wrote}
+use Rattle.ownership.specs.Owners.{owned, allOwned, sound5}
 use Rattle.ownership.proofs.ClaimMeaning.{within, claim-fresh, table-fresh}
 use Rattle.ownership.proofs.BlockFacts.{allOwned-within}
 
@@ -32,19 +37,19 @@ unfolding tableOf
 byte-tableOf m i h = getD-map-range (λ k. weighed m (8 * k)) 0 256 i h ∙ rw zero-add
 
 -- the marks to start from: ones, with the first t cleared
-drop-ones : (t : ℕ) → t ≤ 2048 → drop {A = ℕ} t (replicate 2048 1) ≡ replicate (2048 - t) 1
+drop-ones : (t : ℕ) → t ≤ mostSectors → drop {A = ℕ} t (replicate mostSectors 1) ≡ replicate (mostSectors - t) 1
 drop-ones t h =
-    let n : 2048 ≡ t + (2048 - t) = omega arith in
-    ap (λ (k : ℕ). drop {A = ℕ} t (replicate k 1)) n ∙ ap (drop t) (sym (replicate-append-replicate t (2048 - t) 1))
-    ∙ drop-at (replicate t 1) (replicate (2048 - t) 1) t (length-replicate {A = ℕ} t 1)
+    let n : mostSectors ≡ t + (mostSectors - t) = omega arith in
+    ap (λ (k : ℕ). drop {A = ℕ} t (replicate k 1)) n ∙ ap (drop t) (sym (replicate-append-replicate t (mostSectors - t) 1))
+    ∙ drop-at (replicate t 1) (replicate (mostSectors - t) 1) t (length-replicate {A = ℕ} t 1)
 
-pub fresh-made : (t : ℕ) (m b : List ℕ) → t ≤ 2048 → m ≡ replicate 2048 1 → b ≡ blanks t → putMid 0 (t - 0) m b ≡ fresh t
+pub fresh-made : (t : ℕ) (m b : List ℕ) → t ≤ mostSectors → m ≡ replicate mostSectors 1 → b ≡ blanks t → putMid 0 (t - 0) m b ≡ fresh t
 unfolding fresh put
 fresh-made t m b h e q =
     wrote 0 t m b (blanks t) (omega arith) q (length-blanks t ∙ sym (sub-zero t))
     ∙ rw (e, length-blanks t, zero-add) (ap (λ (x : List ℕ). blanks t ++ x) (drop-ones t h))
 
-module _ (img : List ℕ) (p : Places) (l : Located img p) (h : sound3 img ≡ true) where
+module _ (img : List ℕ) (p : Layout) (l : Located img p) (h : sound3 img ≡ true) where
   owned-within : within (p .t) (allOwned img) ≡ true
   owned-within = rw (l .is-t) (allOwned-within img p l h)
 
@@ -63,6 +68,6 @@ module _ (img : List ℕ) (p : Places) (l : Located img p) (h : sound3 img ≡ t
       rw d
 
   -- all that is owned, with the places that the code has
-  pub all-owned : allOwned img ≡ systemOf (p .t) (p .sat) (p .dir) (p .dirs) ++ flat (owned img) (entries img)
+  pub all-owned : allOwned img ≡ systemOf p ++ flat (owned img) (entries img)
   unfolding allOwned system
-  all-owned = rw (l .is-t, l .is-sat, l .is-dir, l .is-dirs)
+  all-owned = rw (places-are img p l)

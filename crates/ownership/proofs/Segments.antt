@@ -1,33 +1,25 @@
--- One sector more at a file's end: the pairs of `extended`, and the sectors that they stand for.
-use mathlib.Core.Path.{_≡_, refl, ap, sym, _∙_}
-use mathlib.Core.Bool.{Bool, true, false}
-use mathlib.Core.List.{List, [], _∷_, _++_, map, append-assoc, append-nil}
-use Prim.Native.Nat.{ℕ, zero, suc, _+_, _-_, _≤_, _<_}
-use native.Mathlib.Nat.{zero-add}
+-- One sector more at a file's end: the pairs of `extended`, how many sectors they stand for, and which.
+use mathlib.Core.Path.{_≡_, ap, _∙_, refl, sym}
+use mathlib.Core.List.{List, [], _∷_, _++_, append-assoc, append-nil, map}
+use mathlib.Core.Bool.{true, false, Bool}
+use Prim.Native.Nat.{ℕ, suc, _+_, _≤_, _<_, _-_}
 use native.Mathlib.Omega.{arith}
+use native.Mathlib.Nat.{zero-add}
 use lib.ListN.{length, length-append}
-use lib.Seq.{getD-append-seam}
 use lib.Dec.{ltb}
-use borrow.Author.Tests.{eqb-true, leb-true, le-leb, ltb-true}
-use Rattle.ownership.specs.Bytes.{_and_, word, range, all, flat, sum}
+use borrow.Author.Tests.{eqb-true, le-leb, ltb-true, leb-true}
+use Rattle.lists.specs.Lists.{range, flat, all, _and_, sum}
+use Rattle.lists.proofs.Tests.{and-left, and-right, both-true}
+use Rattle.lists.proofs.Lists.{all-at}
+use Rattle.lists.proofs.Ranges.{range-snoc, length-range}
 use Rattle.ownership.specs.Blocks.{segStart, segLength, segment, extended, extendedBy, segmentSound}
-use Rattle.ownership.specs.Shapes.{fours, pair, lastPair, follows, lengthened}
-use Rattle.ownership.proofs.Lists.{all-at}
-use Rattle.ownership.proofs.Tests.{and-left, and-right, both-true}
+use Rattle.ownership.specs.Code.Shapes.{pair, follows, lengthened, fours, lastPair}
 
 pub segStart-pair : (s n : ℕ) → segStart (pair s n) ≡ s
 segStart-pair s n = omega arith
 
 pub segLength-pair : (s n : ℕ) → segLength (pair s n) ≡ n
 segLength-pair s n = omega arith
-
-pub range-snoc : (i n : ℕ) → range i (n + 1) ≡ range i n ++ ((i + n) ∷ [])
-unfolding range
-range-snoc i zero = let z : i ≡ i + 0 = omega arith in ap (λ (x : ℕ). x ∷ []) z
-range-snoc i (suc n) =
-    let z : suc i + n ≡ i + suc n = omega arith in
-    let y : suc n + 1 ≡ suc (n + 1) = omega arith in
-    ap (range i) y ∙ ap (λ (l : List ℕ). i ∷ l) (range-snoc (suc i) n ∙ ap (λ (x : ℕ). range (suc i) n ++ (x ∷ [])) z)
 
 pub segment-pair : (s n : ℕ) → segment (pair s n) ≡ range s n
 unfolding segment
@@ -59,7 +51,7 @@ module _ (P : List (List ℕ) → Type 0) (ps : List (List ℕ)) (s : ℕ) where
       go false e = rw (extended-new ps s e) (g e)
 
 -- the sectors of the segments
-flat-append : (ps qs : List (List ℕ)) → flat segment (ps ++ qs) ≡ flat segment ps ++ flat segment qs
+pub flat-append : (ps qs : List (List ℕ)) → flat segment (ps ++ qs) ≡ flat segment ps ++ flat segment qs
 unfolding flat
 flat-append [] qs = refl
 flat-append (p ∷ ps) qs = rw (flat-append ps qs) (sym (append-assoc (segment p) (flat segment ps) (flat segment qs)))
@@ -88,7 +80,7 @@ flat-extendedBy ps [] = sym (append-nil (flat segment ps))
 flat-extendedBy ps (s ∷ ss) = flat-extendedBy (extended ps s) ss ∙ rw (flat-extended ps s) (append-assoc (flat segment ps) (s ∷ []) ss)
 
 -- how many pairs: as many, or one more
-length-lengthened : (ps : List (List ℕ)) → length (lengthened ps) ≡ length ps
+pub length-lengthened : (ps : List (List ℕ)) → length (lengthened ps) ≡ length ps
 unfolding lengthened
 length-lengthened [] = refl
 length-lengthened (p ∷ []) = refl
@@ -107,6 +99,12 @@ length-extendedBy ps (s ∷ ss) =
     let a = length-extended ps s in
     let b = length-extendedBy (extended ps s) ss in
     (omega arith, omega arith)
+
+-- how many sectors they are
+pub length-segments : (ps : List (List ℕ)) → length (flat segment ps) ≡ sum (map (λ p. segLength p) ps)
+unfolding flat segment
+length-segments [] = refl
+length-segments (p ∷ ps) = rw (length-append, length-range, length-segments ps)
 
 -- each of them four bytes
 pub fours-append : (ps qs : List (List ℕ)) → fours ps ≡ true → fours qs ≡ true → fours (ps ++ qs) ≡ true
@@ -189,11 +187,6 @@ module _ (t : ℕ) where
 -- the last pair
 pub lastPair-cons : (p : List ℕ) (ps : List (List ℕ)) → 1 ≤ length ps → lastPair (p ∷ ps) ≡ lastPair ps
 lastPair-cons p ps h = let z : suc (length ps) - 1 ≡ suc (length ps - 1) = omega arith in rw z
-
-pub lastPair-snoc : (ps : List (List ℕ)) (p : List ℕ) → lastPair (ps ++ (p ∷ [])) ≡ p
-lastPair-snoc ps p =
-    let z : length (ps ++ (p ∷ [])) - 1 ≡ length ps = omega (arith, length-append ps (p ∷ [])) in
-    rw z (getD-append-seam ps p [] [])
 
 -- a segment inside a volume of t sectors is no longer than that, so that one sector more still fits a word
 pub lastPair-short : (t : ℕ) (ps : List (List ℕ)) → all (segmentSound t) ps ≡ true → segLength (lastPair ps) ≤ t

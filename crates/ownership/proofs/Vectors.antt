@@ -1,16 +1,18 @@
 -- Computed examples of this layer's definitions: an edit of a definition that breaks one is refused here.
+use mathlib.Core.List.{List, [], _∷_, _++_}
 use mathlib.Core.Path.{_≡_, refl}
 use mathlib.Core.Bool.{Bool, true, false}
-use mathlib.Core.List.{List, [], _∷_, _++_}
-use Prim.Native.Nat.{ℕ, _*_}
-use lib.ListN.{length, take, drop, replicate}
-use Rattle.ownership.specs.Bytes.{_and_, same, byte, put, bytes-open}
-use Rattle.ownership.specs.Names.{name, names-open}
-use Rattle.ownership.specs.Volume.{trailer, sat, satAt, sound1, volume-open}
-use Rattle.ownership.specs.Directory.{entry, valid, namesDiffer, sound2, directory-open}
-use Rattle.ownership.specs.Blocks.{extendedBy, blockOf, pairs, sectorsOf, blockSound, sound3, blocks-open}
-use Rattle.ownership.specs.Owners.{withBits, satOf, one, sound5, owners-open}
-use Rattle.ownership.specs.Free.{formatted, free, run, lowest, putSat, free-open}
+use Prim.Native.Nat.{ℕ}
+use lib.ListN.{take, drop, replicate, length}
+use Rattle.lists.specs.Lists.{_and_, same, lists-open}
+use Rattle.lists.specs.Parts.{parts-open}
+use Rattle.volume.specs.Volume.{trailer, sat, sound1, volume-open}
+use Rattle.volume.specs.Directory.{sound2, directory-open, fields, entry, valid, namesDiffer}
+use Rattle.volume.specs.Sat.{one, free, sat-open, withBits, putSat, lowestRun, lowest}
+use Rattle.volume.specs.Names.{names-open, name}
+use Rattle.volume.specs.Formatted.{formatted, formatted-open}
+use Rattle.ownership.specs.Blocks.{sound3, blocks-open, extendedBy, blockOf, sectorsOf, blockSound}
+use Rattle.ownership.specs.Owners.{sound5, owners-open}
 
 id : List ℕ
 id = 0x56 ∷ 0x4F ∷ 0x4C ∷ 32 ∷ []
@@ -23,11 +25,11 @@ looked v =
     ++ (one (same (drop 2 (sat v)) (replicate 254 0xFF)) ∷ one (sound1 v and sound2 v and sound3 v and sound5 v) ∷ free v ∷ []))
 
 formatted-1 : looked (formatted id 1 16) ≡ 0x00 ∷ 0x10 ∷ 0x00 ∷ 0x0E ∷ 0x00 ∷ 0x0D ∷ 0x00 ∷ 0x01 ∷ 0xE0 ∷ 0x01 ∷ 1 ∷ 1 ∷ 12 ∷ []
-unfolding looked id bytes-open names-open volume-open directory-open blocks-open owners-open free-open
+unfolding looked id lists-open parts-open names-open volume-open directory-open blocks-open owners-open sat-open formatted-open
 formatted-1 = refl
 
 formatted-8 : looked (formatted id 8 16) ≡ 0x00 ∷ 0x10 ∷ 0x00 ∷ 0x0E ∷ 0x00 ∷ 0x0D ∷ 0x00 ∷ 0x08 ∷ 0xFF ∷ 0xC1 ∷ 1 ∷ 1 ∷ 5 ∷ []
-unfolding looked id bytes-open names-open volume-open directory-open blocks-open owners-open free-open
+unfolding looked id lists-open parts-open names-open volume-open directory-open blocks-open owners-open sat-open formatted-open
 formatted-8 = refl
 
 -- Free sectors 3, 5, 6 and 8 to 14: the lowest run of 2 is at 5, of 7 at 8, and 8 have none; the lowest three are 3, 5, 6
@@ -35,19 +37,20 @@ holed : List ℕ → List ℕ
 holed v = putSat v (withBits 1 (sat v) (4 ∷ 7 ∷ [])) v
 
 runs : List ℕ → List ℕ
-runs v = run 1 v ∷ run 2 v ∷ run 7 v ∷ run 8 v ∷ (lowest 3 v ++ (free v ∷ []))
+runs v = lowestRun 1 v ∷ lowestRun 2 v ∷ lowestRun 7 v ∷ lowestRun 8 v ∷ (lowest 3 v ++ (free v ∷ []))
 
 runs-found : runs (holed (formatted id 1 16)) ≡ 3 ∷ 5 ∷ 8 ∷ 16 ∷ 3 ∷ 5 ∷ 6 ∷ 10 ∷ []
-unfolding runs holed id bytes-open names-open volume-open directory-open blocks-open owners-open free-open
+unfolding runs holed id lists-open parts-open names-open volume-open directory-open blocks-open owners-open sat-open formatted-open
 runs-found = refl
 
 -- sectors 7, 3, 4 and 9 make segments (7,1), (3,2), (9,1), in that order
 grown : List (List ℕ)
 grown = extendedBy [] (7 ∷ 3 ∷ 4 ∷ 9 ∷ [])
 
-grown-segments : sectorsOf (blockOf grown 4 1000) ++ (length grown ∷ one (blockSound 10 (blockOf grown 4 1024)) ∷ one (blockSound 9 (blockOf grown 4 1024)) ∷ one (blockSound 10 (blockOf grown 4 1025)) ∷ [])
+grown-segments : sectorsOf (blockOf grown 4 1000) ++ (length grown ∷ one (blockSound 10 (blockOf grown 4 1024)) ∷ one (blockSound 9 (blockOf grown 4 1024)) ∷ one
+    (blockSound 10 (blockOf grown 4 1025)) ∷ [])
     ≡ 7 ∷ 3 ∷ 4 ∷ 9 ∷ 3 ∷ 1 ∷ 0 ∷ 0 ∷ []
-unfolding grown bytes-open blocks-open
+unfolding grown lists-open parts-open blocks-open
 grown-segments = refl
 
 -- names: a letter first, then letters and digits, then only spaces
@@ -56,17 +59,17 @@ judged-names =
     name (65 ∷ 57 ∷ 90 ∷ 32 ∷ []) ∷ name (57 ∷ 65 ∷ []) ∷ name (65 ∷ 32 ∷ 65 ∷ []) ∷ name (32 ∷ 32 ∷ []) ∷ name (65 ∷ 91 ∷ []) ∷ []
 
 names-judged : judged-names ≡ true ∷ false ∷ false ∷ false ∷ false ∷ []
-unfolding judged-names bytes-open names-open
+unfolding judged-names lists-open parts-open names-open
 names-judged = refl
 
 -- an entry is valid up to record length 1,024; two of one name clash, and two unused ones do not
 file : ℕ → List ℕ
-file l = entry 1 (0 ∷ 5 ∷ (replicate 8 32 ++ (88 ∷ replicate 7 32 ++ (65 ∷ 32 ∷ [])))) l 6 0
+file l = entry (fields 1 (0 ∷ 5 ∷ (replicate 8 32 ++ (88 ∷ replicate 7 32 ++ (65 ∷ 32 ∷ [])))) l 6 0)
 
 judged-entries : List Bool
 judged-entries =
     valid (file 1024) ∷ valid (file 1025) ∷ namesDiffer (file 0 ∷ file 7 ∷ []) ∷ namesDiffer (replicate 32 0 ∷ replicate 32 0 ∷ file 0 ∷ []) ∷ []
 
 entries-judged : judged-entries ≡ true ∷ false ∷ false ∷ true ∷ []
-unfolding judged-entries file bytes-open names-open directory-open
+unfolding judged-entries file lists-open parts-open names-open directory-open
 entries-judged = refl

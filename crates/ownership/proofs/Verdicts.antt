@@ -1,41 +1,41 @@
 -- What a verdict says of the volume.
 use mathlib.Core.Path.{_≡_, refl}
-use mathlib.Core.Bool.{Bool, true, false}
+use mathlib.Core.Bool.{true, false, Bool}
 use mathlib.Core.List.{List}
 use Prim.Native.Nat.{ℕ}
 use native.Mathlib.Omega.{arith}
-use Rattle.ownership.specs.Bytes.{_and_, if_then_else_}
-use Rattle.ownership.specs.Volume.{sound1}
-use Rattle.ownership.specs.Directory.{sound2}
+use Rattle.lists.specs.Lists.{if_then_else_, _and_}
+use Rattle.lists.proofs.Tests.{and-left, and-right, both-true}
+use Rattle.volume.specs.Directory.{sound2}
+use Rattle.volume.specs.Code.Located.{Located}
+use Rattle.volume.specs.declared.locate.Layout.{Layout}
+use Rattle.volume.specs.Volume.{sound1, layoutOf}
+use Rattle.volume.proofs.Located.{located-sound, places-are}
 use Rattle.ownership.specs.Blocks.{sound3}
 use Rattle.ownership.specs.Owners.{sound5}
-use Rattle.ownership.specs.Places.{placesOf, Located}
-use Rattle.ownership.specs.Verdict.{ownerSound, judgedOf}
-use Rattle.ownership.specs.declared.volume.Places.{Places}
+use Rattle.ownership.specs.Code.Verdict.{ownerSound, judgedOf}
 use Rattle.ownership.specs.declared.judge.Judged.the-variants.{Sound, Unsound}
-use Rattle.ownership.proofs.Tests.{and-left, and-right, both-true}
-use Rattle.ownership.proofs.Located.{located-sound, places-are}
 
 -- the four points of a volume that is judged sound, and where things are on it
-pub record OwnerSound (img : List ℕ) (p : Places) : Type 0 where
+pub record OwnerSound (img : List ℕ) (p : Layout) : Type 0 where
   pub located : Located img p
   pub point2 : sound2 img ≡ true
   pub point3 : sound3 img ≡ true
   pub point5 : sound5 img ≡ true
 
-pub owner-sound : (img : List ℕ) → ownerSound img ≡ true → OwnerSound img (placesOf img)
+pub owner-sound : (img : List ℕ) → ownerSound img ≡ true → OwnerSound img (layoutOf img)
 unfolding ownerSound
 owner-sound img h =
     let h3 = and-left _ _ h in
     let h2 = and-left _ _ h3 in
     record { located = located-sound img (and-left _ _ h2); point2 = and-right _ _ h2; point3 = and-right _ _ h3; point5 = and-right _ _ h }
 
-pub owner-by : (img : List ℕ) (p : Places) → OwnerSound img p → ownerSound img ≡ true
+pub owner-by : (img : List ℕ) (p : Layout) → OwnerSound img p → ownerSound img ≡ true
 unfolding ownerSound
 owner-by img p s = both-true _ _ (both-true _ _ (both-true _ _ (s .located .sound-1) (s .point2)) (s .point3)) (s .point5)
 
 -- a verdict, both ways
-pub judged-sound : (img : List ℕ) (p : Places) → OwnerSound img p → Sound p ≡ judgedOf img
+pub judged-sound : (img : List ℕ) (p : Layout) → OwnerSound img p → Sound p ≡ judgedOf img
 unfolding judgedOf
 judged-sound img p s = rw (owner-by img p s, places-are img p (s .located))
 
@@ -43,19 +43,19 @@ pub judged-unsound : (img : List ℕ) → ownerSound img ≡ false → Unsound �
 unfolding judgedOf
 judged-unsound img h = rw h
 
-pub sound-judged : (img : List ℕ) (p : Places) → judgedOf img ≡ Sound p → OwnerSound img p
+pub sound-judged : (img : List ℕ) (p : Layout) → judgedOf img ≡ Sound p → OwnerSound img p
 unfolding judgedOf
 sound-judged img p e = go (ownerSound img) refl e
   where
-    go : (b : Bool) → ownerSound img ≡ b → (if b then Sound (placesOf img) else Unsound) ≡ Sound p → OwnerSound img p
-    go true h e = let q : placesOf img ≡ p = cc in rw q at (owner-sound img h)
+    go : (b : Bool) → ownerSound img ≡ b → (if b then Sound (layoutOf img) else Unsound) ≡ Sound p → OwnerSound img p
+    go true h e = let q : layoutOf img ≡ p = cc in rw q at (owner-sound img h)
     go false h e = absurd (let z : _≡_ {A = ℕ} 0 1 = cc in omega arith)
 
 pub unsound-judged : (img : List ℕ) → judgedOf img ≡ Unsound → ownerSound img ≡ false
 unfolding judgedOf
 unsound-judged img e = go (ownerSound img) refl e
   where
-    go : (b : Bool) → ownerSound img ≡ b → (if b then Sound (placesOf img) else Unsound) ≡ Unsound → ownerSound img ≡ false
+    go : (b : Bool) → ownerSound img ≡ b → (if b then Sound (layoutOf img) else Unsound) ≡ Unsound → ownerSound img ≡ false
     go true h e = absurd (let z : _≡_ {A = ℕ} 0 1 = cc in omega arith)
     go false h e = h
 

@@ -1,13 +1,13 @@
 -- "File access block (FAB), one sector for each sequential file", and point 3 of soundness but for the stream's tail.
-use mathlib.Core.Bool.{Bool, true}
 use mathlib.Core.List.{List, [], _∷_, _++_, map}
+use mathlib.Core.Bool.{Bool, true}
 use Prim.Native.Nat.{ℕ, _+_, _*_, _/_, _%_}
-use lib.ListN.{length, drop}
+use lib.ListN.{drop, length}
 use lib.Dec.{eqb, leb, ltb}
-use Rattle.ownership.specs.Numbers.{mostSegments}
-use Rattle.ownership.specs.Bytes.{_and_, if_then_else_, word, bytes2, sector, filled, pieces, inSectors, range, all, flat, sum, zeros}
-use Rattle.ownership.specs.Volume.{sectors}
-use Rattle.ownership.specs.Directory.{entries, unused, contiguous, start, size}
+use Rattle.numbers.specs.Numbers.{mostSegments}
+use Rattle.lists.specs.Parts.{sector, word, bytes2, filled, inSectors, zeros, sectors}
+use Rattle.lists.specs.Lists.{pieces, range, flat, if_then_else_, _and_, all, sum}
+use Rattle.volume.specs.Directory.{start, unused, contiguous, size, entries}
 
 unfoldable pub block : List ℕ → List ℕ → List ℕ
 block img e = sector (start e) img

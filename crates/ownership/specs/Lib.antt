@@ -1,14 +1,3 @@
-pub mod Numbers
-pub mod Bytes
-pub mod Names
-pub mod Volume
-pub mod Directory
 pub mod Blocks
-pub mod Shapes
 pub mod Owners
-pub mod Claims
-pub mod Held
-pub mod Verdict
-pub mod Free
-pub mod Places
-pub mod Found
+pub mod Code

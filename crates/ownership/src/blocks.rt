@@ -1,45 +1,87 @@
-// File access blocks: judged, read, extended, written.
-use crate::bytes::all_zero;
-use crate::bytes::long_at;
-use crate::bytes::put_long;
-use crate::bytes::put_word;
-use crate::bytes::sector_of;
-use crate::bytes::word_at;
-use crate::directory::contiguous;
-use crate::directory::entry_of;
-use crate::directory::unused;
-use crate::volume::Places;
+// File access blocks: where their numbers stand; read, judged, extended, written.
 ghost use mathlib.Core.Path.{_≡_};
-ghost use mathlib.Core.List.{[], _∷_, _++_, map};
-ghost use Prim.Native.Nat.{ℕ, _+_, _-_, _*_, _≤_, _<_};
+ghost use Prim.Native.Nat.{_*_, _≤_, _<_};
+ghost use Rattle.numbers.specs.Numbers.{mostSegments};
+ghost use Rattle.ownership.specs.Blocks.{pairs, segments, total, streamLength, segStart, segLength, blockOf, extended};
+ghost use Rattle.ownership.specs.Blocks.{blockSound, placed, sound3};
+ghost use Rattle.ownership.specs.Code.Shapes.{BlockShaped, HasSegment, pairAt, follows, lastPair, lengthened, pair, Extends};
+ghost use Rattle.ownership.specs.Code.Shapes.{withPairs, segmentsFit};
+ghost use mathlib.Core.List.{[], _∷_, _++_};
 ghost use lib.ListN.{length};
-ghost use lib.Dec.{eqb};
-ghost use Rattle.ownership.specs.Bytes.{_and_, all, sum};
-ghost use Rattle.ownership.specs.Blocks.{segments, total, streamLength, pairs, segLength, extended, blockOf, segmentSound, blockSound, placed, sound3};
-ghost use Rattle.ownership.specs.Shapes.{BlockShaped, Extends, pair, lastPair, follows, lengthened};
-ghost use Rattle.ownership.specs.Places.{Located};
+ghost use Rattle.volume.specs.Code.Located.{Located};
+use lists::parts::all_zero;
+use lists::parts::long_at;
+use lists::parts::put_long;
+use lists::parts::put_word;
+use lists::parts::sector_of;
+use lists::parts::word_at;
+use numbers::MOST_SEGMENTS;
+use volume::directory::contiguous;
+use volume::directory::entry_of;
+use volume::directory::size;
+use volume::directory::start;
+use volume::directory::unused;
+use volume::locate::Layout;
+
+/// How many segments there are.
+pub fn segments(f: &[u8]) -> usize
+    requires { ⌜ length (now f) ≡ 256 ⌝ }
+    ensures { λ r. ⌜ (r ≡ segments (now (f .entry))) × (r < 65536) ⌝ }
+{
+    word_at(f, 0)
+}
+
+/// The total of data sectors.
+pub fn total(f: &[u8]) -> usize
+    requires { ⌜ length (now f) ≡ 256 ⌝ }
+    ensures { λ r. ⌜ (r ≡ total (now (f .entry))) × (r < 65536) ⌝ }
+{
+    word_at(f, 2)
+}
+
+/// The stream length E.
+pub fn stream_length(f: &[u8]) -> usize
+    requires { ⌜ length (now f) ≡ 256 ⌝ }
+    ensures { λ r. ⌜ (r ≡ streamLength (now (f .entry))) × (r < 4294967296) ⌝ }
+{
+    long_at(f, 4)
+}
+
+/// Where segment k starts.
+pub fn seg_start(f: &[u8], k: usize) -> usize
+    requires { ⌜ HasSegment (now f) k ⌝ }
+    ensures { λ r. ⌜ (r ≡ segStart (pairAt (now (f .entry)) k)) × (r < 65536) ⌝ }
+{
+    word_at(f, 8 + 4 * k)
+}
+
+/// How many sectors segment k has.
+pub fn seg_length(f: &[u8], k: usize) -> usize
+    requires { ⌜ HasSegment (now f) k ⌝ }
+    ensures { λ r. ⌜ (r ≡ segLength (pairAt (now (f .entry)) k)) × (r < 65536) ⌝ }
+{
+    word_at(f, 10 + 4 * k)
+}
 
 // Does sector s follow the last segment directly?
 fn joins(f: &[u8], s: usize) -> bool
     requires { ⌜ BlockShaped (now f) ⌝ }
     ensures { λ r. ⌜ r ≡ follows (pairs (now (f .entry))) s ⌝ }
 {
-    let n = word_at(f, 0);
+    let n = segments(f);
     if n == 0 {
         return false;
     }
     let k = n - 1;
-    let start = word_at(f, 8 + 4 * k);
-    let len = word_at(f, 10 + 4 * k);
-    start + len == s
+    seg_start(f, k) + seg_length(f, k) == s
 }
 
 // The last segment one sector longer.
 fn lengthen(f: &mut [u8])
     requires { ⌜ BlockShaped (now f) × (1 ≤ segments (now f)) × (segLength (lastPair (pairs (now f))) < 65535) ⌝ }
-    ensures { λ _. ⌜ now (f .exit) ≡ blockOf (lengthened (pairs (now (f .entry)))) (total (now (f .entry))) (streamLength (now (f .entry))) ⌝ }
+    ensures { λ _. ⌜ now (f .exit) ≡ withPairs (now (f .entry)) (lengthened (pairs (now (f .entry)))) ⌝ }
 {
-    let n = word_at(f, 0);
+    let n = segments(f);
     let at = 6 + 4 * n;
     let len = word_at(f, at);
     put_word(f, at, len + 1);
@@ -47,10 +89,10 @@ fn lengthen(f: &mut [u8])
 
 // A new segment of one sector.
 fn open_segment(f: &mut [u8], s: usize)
-    requires { ⌜ BlockShaped (now f) × (segments (now f) < 62) × (s < 65536) ⌝ }
-    ensures { λ _. ⌜ now (f .exit) ≡ blockOf (pairs (now (f .entry)) ++ (pair s 1 ∷ [])) (total (now (f .entry))) (streamLength (now (f .entry))) ⌝ }
+    requires { ⌜ BlockShaped (now f) × (segments (now f) < mostSegments) × (s < 65536) ⌝ }
+    ensures { λ _. ⌜ now (f .exit) ≡ withPairs (now (f .entry)) (pairs (now (f .entry)) ++ (pair s 1 ∷ [])) ⌝ }
 {
-    let n = word_at(f, 0);
+    let n = segments(f);
     let at = 8 + 4 * n;
     put_word(f, at, s);
     put_word(f, at + 2, 1);
@@ -60,7 +102,7 @@ fn open_segment(f: &mut [u8], s: usize)
 /// One sector more at the file's end.
 pub fn extend(f: &mut [u8], s: usize)
     requires { ⌜ Extends (now f) s ⌝ }
-    ensures { λ _. ⌜ now (f .exit) ≡ blockOf (extended (pairs (now (f .entry))) s) (total (now (f .entry))) (streamLength (now (f .entry))) ⌝ }
+    ensures { λ _. ⌜ now (f .exit) ≡ withPairs (now (f .entry)) (extended (pairs (now (f .entry))) s) ⌝ }
 {
     if joins(f, s) {
         lengthen(f);
@@ -80,21 +122,21 @@ pub fn set_totals(f: &mut [u8], n: usize, e: usize)
 
 // Each of the n segments has a sector and lies inside the volume, and their lengths sum to the total.
 fn segments_sound(f: &[u8], n: usize, t: usize) -> bool
-    requires { ⌜ (length (now f) ≡ 256) × (n ≡ segments (now f)) × (n ≤ 62) ⌝ }
-    ensures { λ r. ⌜ r ≡ all (segmentSound t) (pairs (now (f .entry))) and eqb (sum (map (λ p. segLength p) (pairs (now (f .entry))))) (total (now (f .entry))) ⌝ }
+    requires { ⌜ (length (now f) ≡ 256) × (n ≡ segments (now f)) × (n ≤ mostSegments) ⌝ }
+    ensures { λ r. ⌜ r ≡ segmentsFit t (now (f .entry)) ⌝ }
 {
     let mut long: usize = 0;
     let mut i = 0;
     while i < n {
-        let start = word_at(f, 8 + 4 * i);
-        let len = word_at(f, 10 + 4 * i);
-        if !((1 <= len) & (start + len <= t)) {
+        let s = seg_start(f, i);
+        let len = seg_length(f, i);
+        if !((1 <= len) & (s + len <= t)) {
             return false;
         }
         long += len;
         i += 1;
     }
-    long == word_at(f, 2)
+    long == total(f)
 }
 
 /// Is an access block as point 3 of soundness asks, on a volume of t sectors?
@@ -102,15 +144,15 @@ pub fn block_sound(f: &[u8], t: usize) -> bool
     requires { ⌜ length (now f) ≡ 256 ⌝ }
     ensures { λ r. ⌜ r ≡ blockSound t (now (f .entry)) ⌝ }
 {
-    let n = word_at(f, 0);
-    if 62 < n {
+    let n = segments(f);
+    if MOST_SEGMENTS < n {
         return false;
     }
     let at = 8 + 4 * n;
     let rest = all_zero(&f[at..]);
-    let long = long_at(f, 4);
-    let total = word_at(f, 2);
-    rest & segments_sound(f, n, t) & (total == (long + 255) / 256)
+    let long = stream_length(f);
+    let data = total(f);
+    rest & segments_sound(f, n, t) & (data == (long + 255) / 256)
 }
 
 /// Does what a used entry points to lie on the volume, and is its access block sound?
@@ -121,19 +163,18 @@ pub fn placed(img: &[u8], t: usize, e: &[u8]) -> bool
     if unused(e) {
         return true;
     }
-    let start = word_at(e, 26);
+    let s = start(e);
     if contiguous(e) {
-        let size = word_at(e, 28);
-        return start + size <= t;
+        return s + size(e) <= t;
     }
-    if start < t {
-        return block_sound(sector_of(img, start), t);
+    if s < t {
+        return block_sound(sector_of(img, s), t);
     }
     false
 }
 
 /// Point 3 of soundness but for the streams' tails.
-pub fn blocks_sound(img: &[u8], p: Places) -> bool
+pub fn blocks_sound(img: &[u8], p: Layout) -> bool
     requires { ⌜ Located (now img) p ⌝ }
     ensures { λ r. ⌜ r ≡ sound3 (now (img .entry)) ⌝ }
 {

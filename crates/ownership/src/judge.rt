@@ -1,21 +1,21 @@
 // Any bytes judged: points 1, 2, 3 (but for the streams' tails) and 5 of soundness, each once.
-use crate::blocks::blocks_sound;
-use crate::directory::directory_sound;
-use crate::owners::owners_sound;
-use crate::volume::Places;
-use crate::volume::Where;
-use crate::volume::locate;
 ghost use mathlib.Core.Path.{_≡_};
-ghost use Rattle.ownership.specs.Places.{Located};
-ghost use Rattle.ownership.specs.Verdict.{judgedOf};
+ghost use Rattle.volume.specs.Code.Located.{Located};
+ghost use Rattle.ownership.specs.Code.Verdict.{judgedOf};
+use crate::blocks::blocks_sound;
+use crate::owners::owners_sound;
+use volume::directory::directory_sound;
+use volume::locate::Layout;
+use volume::locate::Where;
+use volume::locate::locate;
 
 /// A volume that is sound but for its streams, and where things are on it; or not.
 pub enum Judged {
-    Sound(Places),
+    Sound(Layout),
     Unsound,
 }
 
-fn judge_at(img: &[u8], p: Places) -> Judged
+fn judge_at(img: &[u8], p: Layout) -> Judged
     requires { ⌜ Located (now img) p ⌝ }
     ensures { λ r. ⌜ r ≡ judgedOf (now (img .entry)) ⌝ }
 {

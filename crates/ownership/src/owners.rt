@@ -1,35 +1,42 @@
 // Who owns which sector: no sector twice, and the SAT marks exactly the owned ones.
-use crate::bytes::clear;
-use crate::bytes::copy_in;
-use crate::bytes::sector_of;
-use crate::bytes::wide;
-use crate::bytes::word_at;
-use crate::directory::contiguous;
-use crate::directory::entry_of;
-use crate::directory::unused;
-use crate::sat::clear_mark;
-use crate::sat::free_count;
-use crate::sat::free_in;
-use crate::sat::free_run;
-use crate::volume::Places;
 ghost use mathlib.Core.Path.{_≡_};
 ghost use mathlib.Core.Bool.{true};
-ghost use mathlib.Core.List.{_∷_};
-ghost use Prim.Native.Nat.{ℕ, _+_, _-_, _*_, _≤_, _<_};
+ghost use Prim.Native.Nat.{_+_, _≤_, _<_, _*_};
 ghost use lib.ListN.{length, replicate};
-ghost use Rattle.ownership.specs.Bytes.{range, flat, same, sector, putSector};
-ghost use Rattle.ownership.specs.Volume.{systemOf, sat};
-ghost use Rattle.ownership.specs.Directory.{entries, entryAt};
+ghost use Rattle.numbers.specs.Numbers.{mostSectors};
+ghost use Rattle.lists.specs.Lists.{range, flat, same};
+ghost use Rattle.ownership.specs.Owners.{owned, allOwned, sound5};
+ghost use Rattle.ownership.specs.Code.Claims.{Claims, fresh, weighed, tableOf};
 ghost use Rattle.ownership.specs.Blocks.{sectorsOf, blockSound, placed, sound3};
-ghost use Rattle.ownership.specs.Owners.{owned, allOwned, withBits, sound5};
-ghost use Rattle.ownership.specs.Free.{free, putSat};
-ghost use Rattle.ownership.specs.Places.{Located};
-ghost use Rattle.ownership.specs.Claims.{Claims, fresh, weighed, tableOf};
-ghost use Rattle.ownership.specs.Held.{heldBy};
+ghost use Rattle.volume.specs.Directory.{entries, entryAt};
+ghost use Rattle.volume.specs.Code.Located.{Located, LaidOut};
+ghost use Rattle.volume.specs.Volume.{systemOf, sat};
+ghost use Rattle.volume.specs.Sat.{free, withBits, putSat};
+ghost use Rattle.ownership.specs.Code.Held.{heldBy};
+ghost use mathlib.Core.List.{_∷_};
+ghost use Rattle.lists.specs.Parts.{sector, putSector};
+use crate::blocks::seg_length;
+use crate::blocks::seg_start;
+use crate::blocks::segments;
+use lists::parts::clear;
+use lists::parts::copy_in;
+use lists::parts::sector_of;
+use lists::parts::wide;
+use numbers::MOST_SECTORS;
+use volume::directory::contiguous;
+use volume::directory::entry_of;
+use volume::directory::size;
+use volume::directory::start;
+use volume::directory::unused;
+use volume::locate::Layout;
+use volume::sat::clear_mark;
+use volume::sat::free_count;
+use volume::sat::free_in;
+use volume::sat::free_run;
 
 // Claims n sectors from s on; false where one of them is owned already.
 fn claim_run(marks: &mut [u8], s: usize, n: usize) -> bool
-    requires { ⌜ (length (now marks) ≡ 2048) × (s + n ≤ 2048) ⌝ }
+    requires { ⌜ (length (now marks) ≡ mostSectors) × (s + n ≤ mostSectors) ⌝ }
     ensures { λ r. ⌜ Claims (range s n) (now (marks .entry)) r (now (marks .exit)) ⌝ }
 {
     let end = s + n;
@@ -46,15 +53,15 @@ fn claim_run(marks: &mut [u8], s: usize, n: usize) -> bool
 
 // Claims the segments of an access block.
 fn claim_block(marks: &mut [u8], f: &[u8], t: usize) -> bool
-    requires { ⌜ (length (now marks) ≡ 2048) × (length (now f) ≡ 256) × (t ≤ 2048) × (blockSound t (now f) ≡ true) ⌝ }
+    requires { ⌜ (length (now marks) ≡ mostSectors) × (length (now f) ≡ 256) × (t ≤ mostSectors) × (blockSound t (now f) ≡ true) ⌝ }
     ensures { λ r. ⌜ Claims (sectorsOf (now (f .entry))) (now (marks .entry)) r (now (marks .exit)) ⌝ }
 {
-    let n = word_at(f, 0);
+    let n = segments(f);
     let mut i = 0;
     while i < n {
-        let start = word_at(f, 8 + 4 * i);
-        let len = word_at(f, 10 + 4 * i);
-        if !claim_run(marks, start, len) {
+        let s = seg_start(f, i);
+        let len = seg_length(f, i);
+        if !claim_run(marks, s, len) {
             return false;
         }
         i += 1;
@@ -64,26 +71,27 @@ fn claim_block(marks: &mut [u8], f: &[u8], t: usize) -> bool
 
 // Claims what an entry owns.
 fn claim_entry(marks: &mut [u8], img: &[u8], t: usize, e: &[u8]) -> bool
-    requires { ⌜ (length (now marks) ≡ 2048) × (length (now img) ≡ 256 * t) × (t ≤ 2048) × (length (now e) ≡ 32) × (placed (now img) (now e) ≡ true) ⌝ }
+    requires { ⌜ (length (now marks) ≡ mostSectors) × (length (now img) ≡ 256 * t) × (t ≤ mostSectors) × (length (now e) ≡ 32)
+        × (placed (now img) (now e) ≡ true) ⌝ }
     ensures { λ r. ⌜ Claims (owned (now (img .entry)) (now (e .entry))) (now (marks .entry)) r (now (marks .exit)) ⌝ }
 {
     if unused(e) {
         return true;
     }
-    let start = word_at(e, 26);
+    let s = start(e);
     if contiguous(e) {
-        let size = word_at(e, 28);
-        return claim_run(marks, start, size);
+        let n = size(e);
+        return claim_run(marks, s, n);
     }
-    if !claim_run(marks, start, 1) {
+    if !claim_run(marks, s, 1) {
         return false;
     }
-    claim_block(marks, sector_of(img, start), t)
+    claim_block(marks, sector_of(img, s), t)
 }
 
 // Claims what the entries of the directory own.
-fn claim_entries(marks: &mut [u8], img: &[u8], p: Places) -> bool
-    requires { ⌜ (length (now marks) ≡ 2048) × Located (now img) p × (sound3 (now img) ≡ true) ⌝ }
+fn claim_entries(marks: &mut [u8], img: &[u8], p: Layout) -> bool
+    requires { ⌜ (length (now marks) ≡ mostSectors) × Located (now img) p × (sound3 (now img) ≡ true) ⌝ }
     ensures { λ r. ⌜ Claims (flat (owned (now (img .entry))) (entries (now (img .entry)))) (now (marks .entry)) r (now (marks .exit)) ⌝ }
 {
     let t = p.t;
@@ -99,30 +107,31 @@ fn claim_entries(marks: &mut [u8], img: &[u8], p: Places) -> bool
 }
 
 // Claims the system sectors.
-fn claim_system(marks: &mut [u8], t: usize, sat: usize, dir: usize, dirs: usize) -> bool
-    requires { ⌜ (length (now marks) ≡ 2048) × (1 ≤ t) × (t ≤ 2048) × (sat < t) × (dir + dirs ≤ t) ⌝ }
-    ensures { λ r. ⌜ Claims (systemOf t sat dir dirs) (now (marks .entry)) r (now (marks .exit)) ⌝ }
+fn claim_system(marks: &mut [u8], p: Layout) -> bool
+    requires { ⌜ (length (now marks) ≡ mostSectors) × LaidOut p ⌝ }
+    ensures { λ r. ⌜ Claims (systemOf p) (now (marks .entry)) r (now (marks .exit)) ⌝ }
 {
     if !claim_run(marks, 0, 1) {
         return false;
     }
-    if !claim_run(marks, sat, 1) {
+    if !claim_run(marks, p.sat, 1) {
         return false;
     }
-    if !claim_run(marks, t - 1, 1) {
+    if !claim_run(marks, p.t - 1, 1) {
         return false;
     }
-    claim_run(marks, dir, dirs)
+    claim_run(marks, p.dir, p.dirs)
 }
 
 // Claims all that is owned, over marks that are set from t on.
-fn claim_all(marks: &mut [u8], img: &[u8], p: Places) -> bool
-    requires { ⌜ (length (now marks) ≡ 2048) × (now marks ≡ replicate 2048 1) × Located (now img) p × (sound3 (now img) ≡ true) ⌝ }
+fn claim_all(marks: &mut [u8], img: &[u8], p: Layout) -> bool
+    requires { ⌜ (length (now marks) ≡ mostSectors) × (now marks ≡ replicate mostSectors 1) × Located (now img) p
+        × (sound3 (now img) ≡ true) ⌝ }
     ensures { λ r. ⌜ Claims (allOwned (now (img .entry))) (fresh (p .t)) r (now (marks .exit)) ⌝ }
 {
     let t = p.t;
     clear(&mut marks[0..t]);
-    if !claim_system(marks, t, p.sat, p.dir, p.dirs) {
+    if !claim_system(marks, p) {
         return false;
     }
     claim_entries(marks, img, p)
@@ -145,7 +154,7 @@ fn byte_of(marks: &[u8], s: usize) -> usize
 
 // Does the table mark exactly what is marked?
 fn agrees(sat: &[u8], marks: &[u8]) -> bool
-    requires { ⌜ (length (now sat) ≡ 256) × (length (now marks) ≡ 2048) ⌝ }
+    requires { ⌜ (length (now sat) ≡ 256) × (length (now marks) ≡ mostSectors) ⌝ }
     ensures { λ r. ⌜ r ≡ same (now (sat .entry)) (tableOf (now (marks .entry))) ⌝ }
 {
     let mut i = 0;
@@ -159,11 +168,11 @@ fn agrees(sat: &[u8], marks: &[u8]) -> bool
 }
 
 /// Point 5 of soundness, in one pass over the owners.
-pub fn owners_sound(img: &[u8], p: Places) -> bool
+pub fn owners_sound(img: &[u8], p: Layout) -> bool
     requires { ⌜ Located (now img) p × (sound3 (now img) ≡ true) ⌝ }
     ensures { λ r. ⌜ r ≡ sound5 (now (img .entry)) ⌝ }
 {
-    let mut marks = [1u8; 2048];
+    let mut marks = [1u8; MOST_SECTORS];
     if !claim_all(&mut marks, img, p) {
         return false;
     }
@@ -172,7 +181,7 @@ pub fn owners_sound(img: &[u8], p: Places) -> bool
 }
 
 /// How many sectors are free?
-pub fn free_sectors(img: &[u8], p: Places) -> usize
+pub fn free_sectors(img: &[u8], p: Layout) -> usize
     requires { ⌜ Located (now img) p ⌝ }
     ensures { λ r. ⌜ r ≡ free (now (img .entry)) ⌝ }
 {
@@ -195,32 +204,32 @@ fn held_by(e: &[u8]) -> Held
     if unused(e) {
         return Held::Nothing;
     }
-    let start = word_at(e, 26);
-    let size = word_at(e, 28);
+    let s = start(e);
+    let n = size(e);
     if contiguous(e) {
-        return Held::Run { start, size };
+        return Held::Run { start: s, size: n };
     }
-    Held::Chain { at: start }
+    Held::Chain { at: s }
 }
 
 // Frees the segments of an access block.
 fn free_segments(sat: &mut [u8], f: &[u8], t: usize)
-    requires { ⌜ (length (now sat) ≡ 256) × (length (now f) ≡ 256) × (t ≤ 2048) × (blockSound t (now f) ≡ true) ⌝ }
+    requires { ⌜ (length (now sat) ≡ 256) × (length (now f) ≡ 256) × (t ≤ mostSectors) × (blockSound t (now f) ≡ true) ⌝ }
     ensures { λ _. ⌜ now (sat .exit) ≡ withBits 0 (now (sat .entry)) (sectorsOf (now (f .entry))) ⌝ }
 {
-    let n = word_at(f, 0);
+    let n = segments(f);
     let mut i = 0;
     while i < n {
-        let start = word_at(f, 8 + 4 * i);
-        let len = word_at(f, 10 + 4 * i);
-        free_run(sat, start, len);
+        let s = seg_start(f, i);
+        let len = seg_length(f, i);
+        free_run(sat, s, len);
         i += 1;
     }
 }
 
 // Frees an access block at sector `at`, a copy of which is f, and its segments.
 fn free_block(sat: &mut [u8], at: usize, f: &[u8], t: usize)
-    requires { ⌜ (length (now sat) ≡ 256) × (at < t) × (length (now f) ≡ 256) × (t ≤ 2048) × (blockSound t (now f) ≡ true) ⌝ }
+    requires { ⌜ (length (now sat) ≡ 256) × (at < t) × (length (now f) ≡ 256) × (t ≤ mostSectors) × (blockSound t (now f) ≡ true) ⌝ }
     ensures { λ _. ⌜ now (sat .exit) ≡ withBits 0 (now (sat .entry)) (at ∷ sectorsOf (now (f .entry))) ⌝ }
 {
     clear_mark(sat, at);
@@ -229,8 +238,9 @@ fn free_block(sat: &mut [u8], at: usize, f: &[u8], t: usize)
 
 // The same in an image. The block is copied first: the table that is written lies in the same image.
 fn free_chain(img: &mut [u8], sat: usize, at: usize, t: usize)
-    requires { ⌜ (length (now img) ≡ 256 * t) × (sat < t) × (at < t) × (t ≤ 2048) × (blockSound t (sector at (now img)) ≡ true) ⌝ }
-    ensures { λ _. ⌜ now (img .exit) ≡ putSector sat (withBits 0 (sector sat (now (img .entry))) (at ∷ sectorsOf (sector at (now (img .entry))))) (now (img .entry)) ⌝ }
+    requires { ⌜ (length (now img) ≡ 256 * t) × (sat < t) × (at < t) × (t ≤ mostSectors) × (blockSound t (sector at (now img)) ≡ true) ⌝ }
+    ensures { λ _. ⌜ now (img .exit) ≡ putSector sat
+        (withBits 0 (sector sat (now (img .entry))) (at ∷ sectorsOf (sector at (now (img .entry))))) (now (img .entry)) ⌝ }
 {
     let mut f = [0u8; 256];
     copy_in(&mut f, sector_of(img, at));
@@ -240,9 +250,10 @@ fn free_chain(img: &mut [u8], sat: usize, at: usize, t: usize)
 }
 
 /// Frees what the entry in slot k owns.
-pub fn free_owned(img: &mut [u8], p: Places, k: usize)
+pub fn free_owned(img: &mut [u8], p: Layout, k: usize)
     requires { ⌜ Located (now img) p × (sound3 (now img) ≡ true) × (k < 8 * p .dirs) ⌝ }
-    ensures { λ _. ⌜ now (img .exit) ≡ putSat (now (img .entry)) (withBits 0 (sat (now (img .entry))) (owned (now (img .entry)) (entryAt (now (img .entry)) k))) (now (img .entry)) ⌝ }
+    ensures { λ _. ⌜ now (img .exit) ≡ putSat (now (img .entry))
+        (withBits 0 (sat (now (img .entry))) (owned (now (img .entry)) (entryAt (now (img .entry)) k))) (now (img .entry)) ⌝ }
 {
     let t = p.t;
     let sat = p.sat;

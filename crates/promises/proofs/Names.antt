@@ -1,15 +1,15 @@
 -- A volume ID is bytes.
 use mathlib.Core.Path.{_≡_, refl}
-use mathlib.Core.Bool.{Bool, true, false}
-use mathlib.Core.List.{List, [], _∷_}
-use Prim.Native.Nat.{ℕ, zero, suc, _≤_, _<_}
+use mathlib.Core.Bool.{true, Bool, false}
+use mathlib.Core.List.{List, _∷_, []}
+use Prim.Native.Nat.{ℕ, _≤_, _<_, zero, suc}
 use native.Mathlib.Omega.{arith}
 use lib.Dec.{eqb}
 use borrow.Author.Tests.{leb-true, eqb-true}
-use Rattle.ownership.specs.Bytes.{_and_, _or_}
-use Rattle.ownership.specs.Names.{letter, digit, spaces, nameEnd, name, volumeId}
-use Rattle.ownership.proofs.Tests.{and-left, and-right, or-cases}
-use Rattle.ownership.proofs.Lists.{all-head, all-tail}
+use Rattle.lists.specs.Lists.{_or_, _and_}
+use Rattle.lists.proofs.Tests.{and-right, or-cases, and-left}
+use Rattle.lists.proofs.Lists.{all-head, all-tail}
+use Rattle.volume.specs.Names.{letter, digit, spaces, nameEnd, name, volumeId}
 use Rattle.promises.specs.Sectors.{Bytes}
 
 letter-small : (c : ℕ) → letter c ≡ true → c < 256

@@ -1,26 +1,29 @@
 -- Demand 3 of one good state: where logical sectors lead, and which sectors are marked.
 use mathlib.Core.Path.{_≡_, refl, ap, sym, _∙_}
-use mathlib.Core.Bool.{Bool, true, false, true≢false}
+use mathlib.Core.Bool.{true, true≢false, Bool, false}
 use mathlib.Core.List.{List, [], _∷_}
+use mathlib.Core.Logic.{_≢_}
 use Prim.Native.Nat.{ℕ, zero, suc, _<_}
 use native.Mathlib.Nat.{not-suc-le-zero, le-of-suc-le-suc}
 use native.Mathlib.Decide.{ℕ-discrete}
 use native.Mathlib.Omega.{arith}
 use lib.ListN.{length, getD}
-use borrow.Author.Tests.{eq-eqb, lt-leb, not-true}
-use Rattle.ownership.specs.Bytes.{_or_, if_then_else_, among, distinct}
-use Rattle.ownership.specs.Volume.{sectors, system}
-use Rattle.ownership.specs.Directory.{entryAt, unused, contiguous, start}
-use Rattle.ownership.specs.Owners.{logical, owned, allOwned, owns, marked}
-use Rattle.ownership.proofs.Tests.{and-left, and-right, or-first, or-second}
-use Rattle.ownership.proofs.Bits.{marked-satOf}
-use Rattle.files.proofs.Facts.{Facts, facts}
-use Rattle.files.proofs.Apart.{clear-at, slots-apart, system-apart}
-use Rattle.files.proofs.Sequential.{owned-distinct, fab-apart}
-use Rattle.promises.specs.Calls.{State}
-use Rattle.promises.specs.Sectors.{Good, File, OneSectorEach, NoSystemSector, NoAccessBlock, MarkedExactly}
+use borrow.Author.Tests.{eq-eqb, not-true, lt-leb}
+use Rattle.lists.specs.Lists.{among, distinct, if_then_else_, _or_}
+use Rattle.lists.specs.Parts.{sectors}
+use Rattle.lists.proofs.Tests.{or-first, or-second, and-left, and-right}
+use Rattle.volume.specs.Directory.{unused, contiguous, start, entryAt}
+use Rattle.volume.specs.Volume.{system}
+use Rattle.volume.specs.Sat.{owns, marked}
+use Rattle.volume.proofs.Bits.{marked-satOf}
+use Rattle.ownership.specs.Owners.{logical, owned, allOwned}
+use Rattle.files.proofs.SoundFacts.{Facts, facts}
+use Rattle.files.proofs.OwnersApart.{clear-at, slots-apart, system-apart}
+use Rattle.files.proofs.SequentialFile.{owned-distinct, fab-apart}
+use Rattle.desk.specs.Desk.{State}
+use Rattle.promises.specs.Sectors.{Good, File, leadsTo, hasSector, NoSystemSector, OneSectorEach, NoAccessBlock, MarkedExactly}
 
-pub getD-among : (xs : List ℕ) (a : ℕ) → a < length xs → among (getD xs a 0) xs ≡ true
+getD-among : (xs : List ℕ) (a : ℕ) → a < length xs → among (getD xs a 0) xs ≡ true
 unfolding among
 getD-among [] a h = absurd (not-suc-le-zero h)
 getD-among (x ∷ xs) zero h = or-first _ _ (eq-eqb x x refl)
@@ -42,7 +45,7 @@ unfolding among
 later u x xs m = or-second _ _ m
 
 -- a used entry owns its logical sectors
-pub owns-logical : (v e : List ℕ) (u : ℕ) → unused e ≡ false → among u (logical v e) ≡ true → among u (owned v e) ≡ true
+owns-logical : (v e : List ℕ) (u : ℕ) → unused e ≡ false → among u (logical v e) ≡ true → among u (owned v e) ≡ true
 unfolding owned
 owns-logical v e u n m = go (contiguous e) refl
   where
@@ -63,22 +66,33 @@ logical-distinct v e n d = go (contiguous e) refl
     go false q = and-right _ _ (rw (n, q) at d)
 
 module _ (s : State) (g : Good s) where
-  F : Facts (s .image)
-  F = facts (s .image) (g .is-sound)
+  abbrev v : List ℕ
+  v = s .image
 
-  pub led : (k a : ℕ) → File s k → a < length (logical (s .image) (entryAt (s .image) k)) → among (getD (logical (s .image) (entryAt (s .image) k)) a 0) (owned (s .image) (entryAt (s .image) k)) ≡ true
-  led k a f h = owns-logical (s .image) (entryAt (s .image) k) _ (f .used) (getD-among (logical (s .image) (entryAt (s .image) k)) a h)
+  F : Facts v
+  F = facts v (g .is-sound)
+
+  -- a logical sector is among those that its file owns
+  led : (k a : ℕ) → File s k → hasSector s k a → among (leadsTo s k a) (owned v (entryAt v k)) ≡ true
+  led k a f h = owns-logical v (entryAt v k) _ (f .used) (getD-among (logical v (entryAt v k)) a h)
+
+  -- and of no other file
+  not-led : (j k a : ℕ) → File s j → File s k → j ≢ k → hasSector s j a → among (leadsTo s j a) (owned v (entryAt v k)) ≡ false
+  not-led j k a fj fk n h = clear-at (owned v (entryAt v k)) (owned v (entryAt v j)) _ (slots-apart v F j k (fj .slot) (fk .slot) n) (led j a fj h)
 
 pub no-system-sector : NoSystemSector
-no-system-sector s g k a f h = clear-at (system (s .image)) (owned (s .image) (entryAt (s .image) k)) _ (system-apart (s .image) (F s g) k (f .slot)) (led s g k a f h)
+no-system-sector s g k a f h =
+    clear-at (system (s .image)) (owned (s .image) (entryAt (s .image) k)) _ (system-apart (s .image) (F s g) k (f .slot)) (led s g k a f h)
 
 pub one-sector-each : OneSectorEach
 one-sector-each s g j k a b fj fk hj hk e = elim (ℕ-discrete j k) [
-  | yes q ↦ (q, one-place (logical v (entryAt v k)) a b (logical-distinct v (entryAt v k) (fk .used) (owned-distinct v (F s g) k (fk .slot))) (rw q at hj) hk (ap (λ (x : ℕ). getD (logical v (entryAt v x)) a 0) (sym q) ∙ e))
+  | yes q ↦
+      let d = logical-distinct v (entryAt v k) (fk .used) (owned-distinct v (F s g) k (fk .slot)) in
+      let same : leadsTo s k a ≡ leadsTo s k b = ap (λ (x : ℕ). leadsTo s x a) (sym q) ∙ e in
+      (q, one-place (logical v (entryAt v k)) a b d (rw q at hj) hk same)
   | no n ↦
-      absurd (true≢false
-      (sym (ap (λ (x : ℕ). among x (owned v (entryAt v k))) e ∙ led s g k b fk hk)
-      ∙ clear-at (owned v (entryAt v k)) (owned v (entryAt v j)) _ (slots-apart v (F s g) j k (fj .slot) (fk .slot) n) (led s g j a fj hj)))
+      let mine : among (leadsTo s j a) (owned v (entryAt v k)) ≡ true = ap (λ (x : ℕ). among x (owned v (entryAt v k))) e ∙ led s g k b fk hk in
+      absurd (true≢false (sym mine ∙ not-led s g j k a fj fk n hj))
 ]
   where
     v : List ℕ
@@ -86,11 +100,15 @@ one-sector-each s g j k a b fj fk hj hk e = elim (ℕ-discrete j k) [
 
 pub no-access-block : NoAccessBlock
 no-access-block s g j k a fj fk q h e = elim (ℕ-discrete k j) [
-  | yes p ↦ absurd (true≢false (sym (getD-among (logical v (entryAt v k)) a h) ∙ ap (λ (x : ℕ). among x (logical v (entryAt v k))) e ∙ ap (λ (x : ℕ). among (start (entryAt v j)) (logical v (entryAt v x))) p ∙ fab-apart v (F s g) j (fj .slot) (fj .used) q))
+  | yes p ↦
+      let here : among (leadsTo s k a) (logical v (entryAt v k)) ≡ true = getD-among (logical v (entryAt v k)) a h in
+      let block : among (start (entryAt v j)) (logical v (entryAt v j)) ≡ true =
+      rw (ap (λ (x : ℕ). logical v (entryAt v x)) p) at (rw e at here) in
+      true≢false (sym block ∙ fab-apart v (F s g) j (fj .slot) (fj .used) q)
   | no n ↦
-      absurd (true≢false
-      (sym (ap (λ (x : ℕ). among x (owned v (entryAt v j))) e ∙ owned-start v (entryAt v j) (fj .used) q)
-      ∙ clear-at (owned v (entryAt v j)) (owned v (entryAt v k)) _ (slots-apart v (F s g) k j (fk .slot) (fj .slot) n) (led s g k a fk h)))
+      let its : among (leadsTo s k a) (owned v (entryAt v j)) ≡ true =
+      ap (λ (x : ℕ). among x (owned v (entryAt v j))) e ∙ owned-start v (entryAt v j) (fj .used) q in
+      true≢false (sym its ∙ not-led s g k j a fk fj n h)
 ]
   where
     v : List ℕ
@@ -99,4 +117,7 @@ no-access-block s g j k a fj fk q h e = elim (ℕ-discrete k j) [
 pub marked-exactly : MarkedExactly
 unfolding owns _or_
 marked-exactly s g x h =
-    ap (λ (b : List ℕ). marked b x) (F s g .sat-right) ∙ marked-satOf (sectors (s .image)) (allOwned (s .image)) x (omega (arith, F s g .high)) ∙ rw (lt-leb (sectors (s .image)) x h)
+    let v : List ℕ = s .image in
+    ap (λ (b : List ℕ). marked b x) (F s g .sat-right)
+    ∙ marked-satOf (sectors v) (allOwned v) x (omega (arith, F s g .high))
+    ∙ rw (lt-leb (sectors v) x h)

@@ -1,25 +1,27 @@
 -- Demand 1, and the refusals of demand 2.
+use mathlib.Core.List.{List, [], _∷_}
 use mathlib.Core.Path.{_≡_}
 use mathlib.Core.Bool.{true, false}
-use mathlib.Core.List.{List, [], _∷_}
 use mathlib.Core.Logic.{_↔_}
 use Prim.Native.Nat.{ℕ, _<_}
 use lib.ListN.{length, getD}
-use Rattle.ownership.specs.Bytes.{among}
-use Rattle.desk.specs.declared.Refusal.{Refusal}
-use Rattle.desk.specs.declared.Refusal.the-variants.{NotSound}
+use Rattle.lists.specs.Lists.{among}
+use Rattle.work.specs.declared.Refusal.{Refusal}
+use Rattle.work.specs.declared.Refusal.the-variants.{NotSound}
+use Rattle.work.specs.Refusals.{Rule, _if_}
+use Rattle.desk.specs.Desk.{State}
+use Rattle.desk.specs.Answers.{status, moved, Outcome}
+use Rattle.desk.specs.Calls.{Call, step, given, rules}
 use Rattle.desk.specs.declared.Answer.the-variants.{Refused}
-use Rattle.desk.specs.Answers.{Outcome, Rule, _if_, status, moved}
-use Rattle.promises.specs.Calls.{Call, State, step, rules, given}
 
 -- the numbers of the status table
-unfoldable pub table : List ℕ
-table =
+unfoldable pub statusTable : List ℕ
+statusTable =
     0x00 ∷ 0x02 ∷ 0x03 ∷ 0x0B ∷ 0x0D ∷ 0x17 ∷ 0x82 ∷ 0x84 ∷ 0xC2 ∷ 0x60 ∷ 0x61 ∷ 0x62 ∷ 0x63 ∷ 0x64 ∷ 0x65 ∷ 0x66 ∷ 0x67 ∷ 0x6F ∷ []
 
 -- Demand 1: "Any image, any request, any length: every call ends with an answer from the status table."
 abbrev pub InTable : Type 0
-InTable = (c : Call) (s : State) → among (status (step c s .answer)) table ≡ true
+InTable = (c : Call) (s : State) → among (status (step c s .answer)) statusTable ≡ true
 
 -- "A refusal hands back its number and length 0, and image, desk and buffer keep every byte."
 pub record Kept (c : Call) (s : State) : Type 0 where

@@ -1,6 +1,10 @@
 pub mod Steps
 pub mod Table
-pub mod Calls
+pub mod Runs
+pub mod Touches
 pub mod Answers
 pub mod Sectors
 pub mod Contents
+pub mod Lasting
+pub mod Conclusions
+pub mod Demands

@@ -1,37 +1,41 @@
 -- Demand 3, over runs from any formatted volume.
-use mathlib.Core.Path.{_≡_}
-use mathlib.Core.Logic.{_≢_}
-use mathlib.Core.Bool.{true, false}
 use mathlib.Core.List.{List, [], _∷_}
-use Prim.Native.Nat.{ℕ, _*_, _<_}
-use lib.ListN.{length, getD}
-use Rattle.ownership.specs.Bytes.{among}
-use Rattle.ownership.specs.Names.{volumeId}
-use Rattle.ownership.specs.Volume.{sectors, dirs, sat, inRange, system}
-use Rattle.ownership.specs.Directory.{entryAt, unused, contiguous, start}
-use Rattle.ownership.specs.Owners.{logical, allOwned, marked}
-use Rattle.ownership.specs.Free.{formatted}
-use Rattle.files.specs.Files.{stored, records, sound}
-use Rattle.desk.specs.Desk.{emptyDesk, lunAt, fits}
-use Rattle.promises.specs.Calls.{Call, Write, Update, State, next, sent, run}
+use mathlib.Core.Path.{_≡_}
+use mathlib.Core.Bool.{true, false}
+use mathlib.Core.Logic.{_≢_}
+use Prim.Native.Nat.{ℕ, _<_, _*_}
+use lib.ListN.{getD, length}
+use Rattle.lists.specs.Lists.{among}
+use Rattle.lists.specs.Parts.{sectors}
+use Rattle.volume.specs.Formatted.{formatted}
+use Rattle.volume.specs.Names.{volumeId}
+use Rattle.volume.specs.Volume.{inRange, dirs, system, sat}
+use Rattle.volume.specs.Directory.{entryAt, unused, contiguous, start}
+use Rattle.volume.specs.Sat.{marked}
+use Rattle.ownership.specs.Owners.{logical, allOwned}
+use Rattle.files.specs.Files.{sound, stored, records}
+use Rattle.luns.specs.Luns.{fits}
+use Rattle.desk.specs.Calls.{Call, sent, Write, Update}
+use Rattle.desk.specs.Desk.{State, state, emptyDesk, lunAt}
+use Rattle.promises.specs.Runs.{run, next}
 
 -- what a caller sends is bytes; so are the bytes of an image
 abbrev pub Bytes : List ℕ → Type 0
 Bytes b = (i : ℕ) → getD b i 0 < 256
 
+abbrev pub AllBytes : List Call → Type 0
+AllBytes [] = Unit {0}
+AllBytes (c ∷ cs) = Bytes (sent c) × AllBytes cs
+
 -- a state in which the service works: sound and fitting
 pub record Good (s : State) : Type 0 where
   pub is-sound : sound (s .image) ≡ true
-  pub is-fitting : fits (s .image) (s .desk) ≡ true
+  pub is-fitting : fits (s .image) (s .desk .luns) ≡ true
   pub is-bytes : Bytes (s .image)
 
 -- "From a formatted volume and any calls": sound and fitting after every call
 unfoldable pub fresh : List ℕ → ℕ → ℕ → State
-fresh id d t = record { image = formatted id d t; desk = emptyDesk }
-
-abbrev pub AllBytes : List Call → Type 0
-AllBytes [] = Unit {0}
-AllBytes (c ∷ cs) = Bytes (sent c) × AllBytes cs
+fresh id d t = state (formatted id d t) emptyDesk
 
 abbrev pub StaysGood : Type 0
 StaysGood =
@@ -56,7 +60,8 @@ OneSectorEach =
 
 -- "none leads to a system sector or an access block"
 abbrev pub NoSystemSector : Type 0
-NoSystemSector = (s : State) → Good s → (k a : ℕ) → File s k → hasSector s k a → among (leadsTo s k a) (system (s .image)) ≡ false
+NoSystemSector =
+    (s : State) → Good s → (k a : ℕ) → File s k → hasSector s k a → among (leadsTo s k a) (system (s .image)) ≡ false
 
 abbrev pub NoAccessBlock : Type 0
 NoAccessBlock =
@@ -73,7 +78,8 @@ pub record SameFile (s s′ : State) (k : ℕ) : Type 0 where
   pub entry-same : entryAt (s′ .image) k ≡ entryAt (s .image) k
   pub places-same : logical (s′ .image) (entryAt (s .image) k) ≡ logical (s .image) (entryAt (s .image) k)
   pub bytes-same : stored (s′ .image) (entryAt (s .image) k) ≡ stored (s .image) (entryAt (s .image) k)
-  pub records-same : contiguous (entryAt (s .image) k) ≡ false → records (s′ .image) (entryAt (s .image) k) ≡ records (s .image) (entryAt (s .image) k)
+  pub records-same : contiguous (entryAt (s .image) k) ≡ false
+      → records (s′ .image) (entryAt (s .image) k) ≡ records (s .image) (entryAt (s .image) k)
 
 -- "A write or update leaves every other file's bytes as they were."
 abbrev pub OthersKept : Type 0

@@ -1,81 +1,111 @@
 -- The (D) steps of "A small volume, followed through": one computed list, one statement.
-use mathlib.Core.Path.{_≡_, refl}
+use mathlib.Core.List.{List, _∷_, [], _++_}
 use mathlib.Core.Bool.{false}
-use mathlib.Core.List.{List, [], _∷_, _++_}
+use mathlib.Core.Path.{_≡_, refl}
 use Prim.Native.Nat.{ℕ}
-use lib.ListN.{take, drop, replicate, getD}
-use Rattle.ownership.specs.Bytes.{same, flat, bytes-open}
-use Rattle.ownership.specs.Names.{names-open}
-use Rattle.ownership.specs.Volume.{trailer, sat, volume-open}
-use Rattle.ownership.specs.Directory.{entryAt, start, directory-open}
-use Rattle.ownership.specs.Blocks.{block, pairs, streamLength, blocks-open}
-use Rattle.ownership.specs.Owners.{logical, one, owners-open}
-use Rattle.ownership.specs.Free.{free, free-open}
-use Rattle.files.specs.Records.{records-open}
+use lib.ListN.{replicate, take, drop, getD}
+use Rattle.lists.specs.Lists.{same, flat, lists-open}
+use Rattle.lists.specs.Parts.{parts-open}
+use Rattle.volume.specs.Volume.{sat, trailer, volume-open}
+use Rattle.volume.specs.Sat.{one, free, sat-open}
+use Rattle.volume.specs.Directory.{entryAt, start, directory-open}
+use Rattle.volume.specs.Names.{names-open}
+use Rattle.volume.specs.Formatted.{formatted-open}
+use Rattle.records.specs.Records.{records-open}
+use Rattle.records.specs.Streams.{streams-open}
+use Rattle.ownership.specs.Blocks.{block, streamLength, pairs, blocks-open}
+use Rattle.ownership.specs.Owners.{logical, owners-open}
 use Rattle.files.specs.Files.{stream, files-open}
+use Rattle.files.specs.Rights.{rights-open}
 use Rattle.files.specs.Changes.{changes-open}
-use Rattle.desk.specs.declared.Mode.the-variants.{Pr, Er, Ew}
-use Rattle.desk.specs.declared.Desk.{Desk}
-use Rattle.desk.specs.Modes.{compatible, modes-open}
-use Rattle.desk.specs.Desk.{emptyDesk, desk-open}
+use Rattle.luns.specs.declared.Mode.the-variants.{Pr, Er, Ew}
+use Rattle.luns.specs.Modes.{compatible, modes-open}
+use Rattle.luns.specs.Luns.{luns-open}
+use Rattle.work.specs.Refusals.{refusals-open}
+use Rattle.work.specs.Volumes.{volumes-open}
+use Rattle.work.specs.Transfers.{transfers-open}
+use Rattle.desk.specs.Calls.{Call, step, Format, Allocate, Assign, Delete, Write, calls-open}
 use Rattle.desk.specs.Answers.{Outcome, status, moved, answers-open}
-use Rattle.desk.specs.Calls.{format, allocate, delete, assign, calls-open}
-use Rattle.desk.specs.Transfers.{write, transfers-open}
+use Rattle.desk.specs.Desk.{state, State, emptyDesk, desk-open}
 
 -- a step: a call, and what is looked at in the image after it
 pub record Step : Type 0 where
-  pub call : List ℕ → Desk → Outcome
+  pub call : Call
   pub look : List ℕ → List ℕ
 
 -- each call on what the one before it left: its status, its length, and what is looked at
 shown : Step → Outcome → List ℕ
-shown s o = status (o .answer) ∷ moved (o .answer) ∷ s .look (o .image)
+shown t o = status (o .answer) ∷ moved (o .answer) ∷ t .look (o .image)
 
 played : List Step → Step → Outcome → List (List ℕ)
-played [] s o = shown s o ∷ []
-played (t ∷ ts) s o = shown s o ∷ played ts t (t .call (o .image) (o .desk))
+played [] t o = shown t o ∷ []
+played (u ∷ us) t o = shown t o ∷ played us u (step (u .call) (state (o .image) (o .desk)))
+
+followed : List Step → State → List (List ℕ)
+followed [] s = []
+followed (t ∷ ts) s = played ts t (step (t .call) s)
 
 -- user 5, no catalog, a filename of one letter, extension A
-desc : ℕ → List ℕ
+unfoldable pub desc : ℕ → List ℕ
 desc c = 0 ∷ 5 ∷ (replicate 8 32 ++ (c ∷ replicate 7 32 ++ (65 ∷ 32 ∷ [])))
 
 -- the SAT's bytes 0 and 1, and whether all others are FF
-sat2 : List ℕ → List ℕ
+pub sat2 : List ℕ → List ℕ
 sat2 img = take 2 (sat img) ++ (one (same (drop 2 (sat img)) (replicate 254 0xFF)) ∷ [])
 
--- slot k's first sector or access block; E; the segments; the stream; the physical sector of logical sector 1
-at : ℕ → List ℕ → ℕ
+-- slot k's first sector or access block; E; the segments; the physical sector of logical sector 1
+pub at : ℕ → List ℕ → ℕ
 at k img = start (entryAt img k)
 
-ends : ℕ → List ℕ → ℕ
-ends k img = streamLength (block img (entryAt img k))
+pub bytesIn : ℕ → List ℕ → ℕ
+bytesIn k img = streamLength (block img (entryAt img k))
 
-segs : ℕ → List ℕ → List ℕ
-segs k img = flat (λ p. p) (pairs (block img (entryAt img k)))
+pub segments : ℕ → List ℕ → List ℕ
+segments k img = flat (λ p. p) (pairs (block img (entryAt img k)))
 
-second : ℕ → List ℕ → ℕ
+pub second : ℕ → List ℕ → ℕ
 second k img = getD (logical img (entryAt img k)) 1 0
 
-steps : List (List ℕ)
-steps =
-    played
-    (record { call = λ img d. allocate img d 5 (desc 88) 0 3 0; look = λ img. at 0 img ∷ sat2 img }
-    ∷ record { call = λ img d. allocate img d 5 (desc 89) 1 0 0; look = λ img. at 1 img ∷ ends 1 img ∷ (segs 1 img ++ sat2 img) }
-    ∷ record { call = λ img d. assign img d 5 0 (desc 89) 4 false; look = λ img. [] }
-    ∷ record { call = λ img d. write img d 5 0 0 0 (0x41 ∷ 0x42 ∷ 0x43 ∷ []); look = λ img. stream img (entryAt img 1) ++ (ends 1 img ∷ (segs 1 img ++ sat2 img)) }
-    ∷ record { call = λ img d. delete img d 5 (desc 88); look = sat2 }
-    ∷ record { call = λ img d. write img d 5 0 0 0 (replicate 250 1); look = λ img. ends 1 img ∷ (segs 1 img ++ (sat2 img ++ (second 1 img ∷ free img ∷ []))) }
-    -- steps 7 and 8 are asked of the volume after step 6: the refused ones, which leave it, come first
-    ∷ record { call = λ img d. allocate img d 5 (desc 88) 0 8 0; look = λ img. free img ∷ [] }
-    ∷ record { call = λ img d. write img d 5 0 3 3 (0x41 ∷ []); look = λ img. [] }
-    ∷ record { call = λ img d. write img d 5 0 3 1 (0x41 ∷ []); look = λ img. [] }
-    ∷ record { call = λ img d. allocate img d 5 (desc 88) 0 7 0; look = λ img. at 0 img ∷ [] }
-    ∷ [])
-    (record { call = λ img d. format img d [] 0; look = λ img. take 8 (trailer img) ++ (sat2 img ++ (free img ∷ [])) })
-    (format (replicate 4096 7) emptyDesk (0x56 ∷ 0x4F ∷ 0x4C ∷ 0x31 ∷ []) 1)
-    ++ ((one (compatible Pr Ew) ∷ []) ∷ (one (compatible Pr Er) ∷ []) ∷ [])
+-- 4,096 bytes of anything, and an empty desk
+unfoldable pub blank : State
+blank = state (replicate 4096 7) emptyDesk
 
-settled : steps ≡
+-- document 01's steps by their numbers; file X is in slot 0, file Y in slot 1
+unfoldable pub story : List Step
+story =
+    -- 1
+    record {
+      call = Format (0x56 ∷ 0x4F ∷ 0x4C ∷ 0x31 ∷ []) 1;
+      look = λ img. take 8 (trailer img) ++ (sat2 img ++ (free img ∷ []));
+    }
+    -- 2, 3
+    ∷ record { call = Allocate 5 (desc 88) 0 3 0; look = λ img. at 0 img ∷ sat2 img }
+    ∷ record { call = Allocate 5 (desc 89) 1 0 0; look = λ img. at 1 img ∷ bytesIn 1 img ∷ (segments 1 img ++ sat2 img) }
+    -- 4
+    ∷ record { call = Assign 5 0 (desc 89) 4 false; look = λ img. [] }
+    ∷ record {
+      call = Write 5 0 0 0 (0x41 ∷ 0x42 ∷ 0x43 ∷ []);
+      look = λ img. stream img (entryAt img 1) ++ (bytesIn 1 img ∷ (segments 1 img ++ sat2 img));
+    }
+    -- 5, 6
+    ∷ record { call = Delete 5 (desc 88); look = sat2 }
+    ∷ record {
+      call = Write 5 0 0 0 (replicate 250 1);
+      look = λ img. bytesIn 1 img ∷ (segments 1 img ++ (sat2 img ++ (second 1 img ∷ free img ∷ [])));
+    }
+    -- 7 and 8 are asked of the volume after step 6: the refused ones, which leave it, come first
+    ∷ record { call = Allocate 5 (desc 88) 0 8 0; look = λ img. free img ∷ [] }
+    ∷ record { call = Write 5 0 3 3 (0x41 ∷ []); look = λ img. [] }
+    ∷ record { call = Write 5 0 3 1 (0x41 ∷ []); look = λ img. [] }
+    ∷ record { call = Allocate 5 (desc 88) 0 7 0; look = λ img. at 0 img ∷ [] }
+    ∷ []
+
+-- 9 asks the modes alone
+pub steps : List (List ℕ)
+steps = followed story blank ++ ((one (compatible Pr Ew) ∷ []) ∷ (one (compatible Pr Er) ∷ []) ∷ [])
+
+pub settled : List (List ℕ)
+settled =
     -- 1: the trailer, the SAT, 12 free
     (0 ∷ 0 ∷ 0x00 ∷ 0x10 ∷ 0x00 ∷ 0x0E ∷ 0x00 ∷ 0x0D ∷ 0x00 ∷ 0x01 ∷ 0xE0 ∷ 0x01 ∷ 1 ∷ 12 ∷ [])
     -- 2: start 3
@@ -100,5 +130,18 @@ settled : steps ≡
     ∷ (1 ∷ [])
     ∷ (0 ∷ [])
     ∷ []
-unfolding steps played shown desc sat2 at ends segs second bytes-open names-open volume-open directory-open blocks-open owners-open free-open records-open files-open changes-open modes-open desk-open answers-open calls-open transfers-open
-settled = refl
+
+-- "The (D) steps form a single computed list with a single statement"
+abbrev pub SmallVolume : Type 0
+SmallVolume = steps ≡ settled
+
+-- for a proof that computes: opens every definition of the service
+unfoldable pub service-open : Unit {0}
+unfolding lists-open parts-open names-open volume-open directory-open blocks-open owners-open sat-open formatted-open rights-open
+    records-open files-open streams-open
+    changes-open modes-open luns-open refusals-open volumes-open transfers-open desk-open answers-open calls-open
+service-open = tt
+
+pub small-volume : SmallVolume
+unfolding steps settled story blank followed played shown desc sat2 at bytesIn segments second service-open
+small-volume = refl

@@ -1,27 +1,27 @@
-// The image's bytes: filled, copied and summed.
-/// Every byte becomes `b`.
-pub(crate) fn fill(s: &mut [u8], b: u8) {
+// The image's bytes: cleared, copied and summed.
+use crate::print::least;
+
+/// Every byte becomes 0.
+pub(crate) fn clear(s: &mut [u8]) {
     let mut i = 0;
     while i < s.len() {
-        s[i] = b;
+        s[i] = 0;
         i += 1;
     }
 }
 
 /// Puts all of `s` into `image` from `at` on, and answers whether it lies inside.
 pub(crate) fn poke(image: &mut [u8], at: usize, s: &[u8]) -> bool {
-    if image.len() < at {
-        return false;
-    }
-    if image.len() - at < s.len() {
+    let from = least(at, image.len());
+    if image.len() - from < s.len() {
         return false;
     }
     let mut i = 0;
     while i < s.len() {
-        image[at + i] = s[i];
+        image[from + i] = s[i];
         i += 1;
     }
-    true
+    from == at
 }
 
 /// Adler-32 (RFC 1950, 8.2).

@@ -1,184 +1,175 @@
-// The script as it is read: blocks of any length, cut into lines. A comment is not kept, and of several spaces one is, so that
-// only a line's words take room.
-ghost use Prim.Native.Nat.{_≤_, _<_};
-ghost use mathlib.Core.Path.{_≡_};
-ghost use lib.ListN.{length};
+// The script as it is read: blocks, cut into lines. A comment is not kept, and of several spaces one is, so that only a line's
+// words take room.
 use crate::print;
+use crate::script;
+use crate::script::Call;
 use crate::session;
 use crate::session::Session;
+use crate::store::Room;
 use libc::STDIN_FILENO;
 
-/// A line that is being read: how many of its bytes are kept, whether one did not fit, whether its comment has begun; where the
-/// block goes on, and whether the line has ended there.
-pub(crate) struct Line {
+/// How far a line is read: how many of its bytes are kept, whether a space would divide nothing, whether its comment has begun, and
+/// whether it is too long, so that nothing is kept of it.
+pub(crate) struct Mark {
     pub(crate) used: usize,
-    pub(crate) over: bool,
+    pub(crate) spare: bool,
     pub(crate) comment: bool,
+    pub(crate) over: bool,
+}
+
+/// Standard input: a block of `got` bytes, of which `at` are read; the line that is being read, and whether it has ended; whether
+/// the input has ended, or failed.
+pub(crate) struct Reader {
+    pub(crate) block: [u8; 4096],
+    pub(crate) got: usize,
     pub(crate) at: usize,
+    pub(crate) line: [u8; 16640],
+    pub(crate) mark: Mark,
     pub(crate) whole: bool,
+    pub(crate) ended: bool,
+    pub(crate) failed: bool,
 }
 
-// Whether a space at `used` would divide nothing.
-fn is_spare(line: &[u8], used: usize) -> bool {
-    if used == 0 {
-        return true;
+// A line begins.
+fn begun() -> Mark {
+    Mark {
+        used: 0,
+        spare: true,
+        comment: false,
+        over: false,
     }
-    let last = used - 1;
-    if last < line.len() {
-        return line[last] == b' ';
-    }
-    false
 }
 
-// Keeps one byte of the line.
-fn keep(line: &mut [u8], l: Line, b: u8) -> Line
-    ensures { λ r. ⌜ r .at ≡ l .at ⌝ }
-{
-    let mut t = l;
-    let used = l.used;
-    if l.comment {
-        return t;
+fn untouched() -> Reader {
+    Reader {
+        block: [0; 4096],
+        got: 0,
+        at: 0,
+        line: [0; 16640],
+        mark: begun(),
+        whole: false,
+        ended: false,
+        failed: false,
+    }
+}
+
+// The mark after `b`, which was put behind what is kept, and is kept if it is counted here.
+fn after(m: Mark, b: u8) -> Mark {
+    let mut next = m;
+    if m.comment | m.over | ((b == b' ') & m.spare) {
+        return next;
     }
     if b == b'#' {
-        t.comment = true;
-        return t;
+        next.comment = true;
+        return next;
     }
-    if (b == b' ') & is_spare(line, used) {
-        return t;
+    if 16640 <= m.used {
+        next.used = 0;
+        next.over = true;
+        return next;
     }
-    if line.len() <= used {
-        t.over = true;
-        return t;
-    }
-    line[used] = b;
-    t.used = used + 1;
-    t
+    next.used = m.used + 1;
+    next.spare = b == b' ';
+    next
 }
 
-// Keeps the bytes of the block from `l.at` on, to the line's end or the block's.
-fn read_on(block: &[u8], line: &mut [u8], l: Line) -> Line
-    requires { ⌜ l .at < length (now block) ⌝ }
-    ensures { λ r. ⌜ (l .at < r .at) × (r .at ≤ length (now (block .entry))) ⌝ }
-{
-    let mut t = l;
-    let mut i = l.at;
+// Keeps what of the block is not read yet, to the line's end or the block's.
+fn kept(block: &[u8], r: Reader) -> Reader {
+    let mut t = r;
+    let mut m = r.mark;
+    let mut i = r.at;
     while i < block.len() {
         let b = block[i];
         i += 1;
         if b == b'\n' {
             t.at = i;
+            t.mark = m;
             t.whole = true;
             return t;
         }
-        t = keep(line, t, b);
+        let used = m.used;
+        if used < 16640 {
+            t.line[used] = b;
+        }
+        m = after(m, b);
     }
     t.at = i;
-    t.whole = false;
+    t.mark = m;
     t
 }
 
-// The line of a session, where the block goes on at `at`.
-fn line_of(s: Session, at: usize) -> Line
-    ensures { λ r. ⌜ r .at ≡ at ⌝ }
-{
-    Line {
-        used: s.used,
-        over: s.over,
-        comment: s.comment,
-        at: at,
-        whole: false,
-    }
+// Reads the line on, to its end or the block's.
+fn read_on(r: Reader) -> Reader {
+    let block = r.block;
+    let n = print::within(r.got, &block);
+    kept(&block[..n], r)
 }
 
-// The session with as much of its line as was read.
-fn with_line(s: Session, l: Line) -> Session {
-    let mut t = s;
-    t.used = l.used;
-    t.over = l.over;
-    t.comment = l.comment;
-    t
-}
-
-// A line begins.
-fn cleared(s: Session) -> Session {
-    let mut t = s;
-    t.used = 0;
-    t.over = false;
-    t.comment = false;
-    t
-}
-
-// The line that stands in `line` is carried out. What is printed and the bytes of a call have their room here.
-fn carried_out(path: &[u8], line: &[u8], whole: &mut [u8], s: Session) -> Session {
-    let mut out = [0u8; 16640];
-    let mut data = [0u8; 8192];
-    session::step(path, line, whole, &mut out, &mut data, s)
-}
-
-// The line that stands in `line` has ended: it is carried out if it has a word, and another begins.
-fn finish(path: &[u8], line: &[u8], whole: &mut [u8], s: Session) -> Session {
-    if (s.used == 0) & !s.over {
-        return cleared(s);
-    }
-    let n = print::within(s.used, line);
-    cleared(carried_out(path, &line[..n], whole, s))
-}
-
-// What was read is kept, and carried out if the line has ended.
-fn settled(path: &[u8], line: &[u8], whole: &mut [u8], s: Session, l: Line) -> Session {
-    let t = with_line(s, l);
-    if !l.whole {
-        return t;
-    }
-    finish(path, line, whole, t)
-}
-
-// Every line that ends in the block is carried out; what follows the last is kept.
-fn lines(path: &[u8], block: &[u8], line: &mut [u8], whole: &mut [u8], s: Session) -> Session {
-    let mut t = s;
-    let mut at = 0;
-    while at < block.len() {
-        let l = read_on(block, line, line_of(t, at));
-        t = settled(path, line, whole, t, l);
-        if t.broken {
-            return t;
-        }
-        at = l.at;
-    }
-    t
-}
-
-// Reads a block and carries its lines out.
-fn read_block(path: &[u8], line: &mut [u8], whole: &mut [u8], s: Session) -> Session {
-    let mut block = io::large_buffer();
+// Reads the next block.
+fn refilled(r: Reader) -> Reader {
+    let mut block = io::buffer();
     let got = libc::read(STDIN_FILENO, &mut block);
-    let mut t = s;
-    if got < 0 {
-        os::fail(b"standard input");
-        t.broken = true;
-        return t;
-    }
-    if got == 0 {
-        t.ended = true;
-        return t;
-    }
-    let n = io::count(got, &block);
-    lines(path, &block[..n], line, whole, t)
+    let mut t = r;
+    t.got = io::count(got, &block);
+    t.at = 0;
+    t.block = block;
+    t.failed = got < 0;
+    t.ended = got <= 0;
+    t
 }
 
-/// The whole script, from standard input; its last line may lack its end. A proved loop has to end, and nothing says that a
-/// script does: so it counts its turns down.
-pub(crate) fn script(path: &[u8], line: &mut [u8], whole: &mut [u8], s: Session) -> Session {
-    let mut t = s;
+// The input has ended. If it failed, that is said, and nothing is kept of the line.
+fn closed(r: Reader) -> Reader {
+    if !r.failed {
+        return r;
+    }
+    os::fail(b"standard input");
+    let mut t = r;
+    t.mark = begun();
+    t
+}
+
+// Reads the next line; the last may lack its end. A proved loop has to end, and nothing says that a line does: so it counts its
+// turns down.
+fn next(r: Reader) -> Reader {
+    let mut t = r;
+    t.mark = begun();
+    t.whole = false;
     let mut turns = u64::MAX;
     while turns > 0 {
-        t = read_block(path, line, whole, t);
-        if t.broken {
+        t = read_on(t);
+        if t.whole {
             return t;
         }
+        t = refilled(t);
         if t.ended {
-            return finish(path, line, whole, t);
+            return closed(t);
         }
+        turns -= 1;
+    }
+    t
+}
+
+// The line, parsed. Of one that is too long nothing is kept, so that it has no command.
+fn call_of(r: Reader) -> Call {
+    let m = r.mark;
+    let line = r.line;
+    let n = print::within(m.used, &line);
+    script::parsed(&line[..n], m.over)
+}
+
+/// The whole script, from standard input. Its turns are counted down, as those of `next` are.
+pub(crate) fn run(name: &[u8], whole: &mut Room, s: Session) -> Session {
+    let mut t = s;
+    let mut r = untouched();
+    let mut turns = u64::MAX;
+    while turns > 0 {
+        if t.broken | r.ended {
+            t.broken = t.broken | r.failed;
+            return t;
+        }
+        r = next(r);
+        t = session::step(name, whole, t, call_of(r));
         turns -= 1;
     }
     t

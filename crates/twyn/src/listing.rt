@@ -1,12 +1,13 @@
 // The desk as it is printed.
-use crate::print;
+use crate::print::Text;
 use desk::Desk;
-use desk::Lun;
-use desk::Mode;
-use desk::Place;
+use luns::Lun;
+use luns::Mode;
+use luns::Place;
+use numbers::LUNS;
 
 // The mode's house number.
-fn mode_number(m: Mode) -> u32 {
+fn mode_number(m: Mode) -> u64 {
     match m {
         Mode::Pr => 0,
         Mode::Er => 1,
@@ -19,45 +20,36 @@ fn mode_number(m: Mode) -> u32 {
     }
 }
 
-// A number and a space.
-fn item(out: &mut [u8], at: usize, n: u32) -> usize {
-    let next = print::number(out, at, n as u64);
-    print::put(out, next, b' ')
-}
-
-fn place(out: &mut [u8], at: usize, p: Place) -> usize {
+fn place(t: Text, p: Place) -> Text {
     match p {
-        Place::Fresh => print::text(out, at, b"fresh"),
-        Place::At { i, n } => {
-            let one = print::text(out, at, b"at ");
-            let two = item(out, one, i);
-            print::number(out, two, n as u64)
-        }
+        Place::Fresh => t.word(b"fresh"),
+        Place::At { i, n } => t.word(b"at").number(i as u64).number(n as u64),
     }
 }
 
-fn unit(out: &mut [u8], at: usize, u: Lun) -> usize {
+fn unit(t: Text, u: Lun) -> Text {
     if !u.held {
-        return print::text(out, at, b"free");
+        return t.word(b"free");
     }
-    let one = item(out, at, u.user);
-    let two = item(out, one, u.slot);
     let m = u.mode;
-    let three = item(out, two, mode_number(m));
     let p = u.place;
-    place(out, three, p)
+    place(
+        t.number(u.user as u64)
+            .number(u.slot as u64)
+            .number(mode_number(m)),
+        p,
+    )
 }
 
-/// Puts the sixteen LUNs at the line's start.
-pub(crate) fn desk(out: &mut [u8], d: Desk) -> usize {
+/// The sixteen LUNs.
+pub(crate) fn desk(d: Desk) -> Text {
     let first = d.luns[0];
-    let mut at = unit(out, 0, first);
+    let mut t = unit(Text::empty(), first);
     let mut i = 1;
-    while i < 16 {
+    while i < LUNS {
         let u = d.luns[i];
-        at = print::text(out, at, b" | ");
-        at = unit(out, at, u);
+        t = unit(t.word(b"|"), u);
         i += 1;
     }
-    at
+    t
 }

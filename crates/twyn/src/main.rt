@@ -1,6 +1,7 @@
 // twyn [IMAGE]: runs a script of calls from standard input on a volume, and prints one line for each. The work is the crate
 // desk's; this program parses and prints.
 mod answers;
+mod calls;
 mod image;
 mod input;
 mod listing;
@@ -10,37 +11,41 @@ mod session;
 mod store;
 mod words;
 
-// Runs the script, and writes the image back if the script changed it. With no path nothing is written.
-fn run(path: &[u8], whole: &mut [u8], size: usize) {
-    let mut line = [0u8; 16640];
-    let s = session::start(size, path.len() == 0);
-    let t = input::script(path, &mut line, whole, s);
-    let n = print::within(t.size, whole);
-    if (path.len() == 0) | t.broken | !t.changed {
+use session::Session;
+use store::Room;
+
+// Writes the image back if the script changed it.
+fn keep(name: &[u8], path: &[u8], whole: &[u8], s: Session) {
+    if (path.len() == 0) | s.broken | !s.changed {
         return;
     }
-    store::save(path, &whole[..n]);
+    let n = print::within(s.size, whole);
+    store::save(name, path, &whole[..n]);
 }
 
-// The image file first, if there is one.
-fn open(path: &[u8], whole: &mut [u8]) {
+// Reads the image, runs the script and keeps what it made. An empty path names no file.
+fn run(path: &[u8], whole: &mut Room) {
     let l = store::load(path, whole);
-    if l.ok {
-        run(path, whole, l.size);
-    }
+    let t = store::new_name(path);
+    let bytes = t.bytes;
+    let n = print::within(t.end, &bytes);
+    let name = &bytes[..n];
+    let s = input::run(name, whole, session::start(l.ok, l.size, path.len() == 0));
+    keep(name, path, whole, s);
+}
+
+// The zeros are made in a function of their own: its result's length is known by its type, and nobody has to count half a million.
+fn room() -> Room {
+    [0; 524544]
 }
 
 fn main() {
-    let mut whole = [0u8; 524544];
+    let mut whole = room();
     let mut path = io::buffer();
     let n = os::arg(1, &mut path);
-    if os::arg_count() < 2 {
-        run(b"", &mut whole, 0);
-        return;
-    }
-    if os::errno() != 0 {
+    if (1 < os::arg_count()) & (os::errno() != 0) {
         os::fail(b"image");
         return;
     }
-    open(&path[..n], &mut whole);
+    run(&path[..n], &mut whole);
 }

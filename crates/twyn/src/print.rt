@@ -1,59 +1,21 @@
-// A printed line, made in a buffer and written at once. What does not fit the buffer is left out; it holds the longest line.
-ghost use Prim.Native.Nat.{_<_};
+// A printed line, made whole and written at once. It is passed by value from one function that adds to it to the next: a lent
+// buffer would have to be followed through the proof of each of them.
+ghost use Prim.Native.Nat.{_≤_};
 ghost use Rattle.io.specs.Counts.{Counts};
 use libc::STDOUT_FILENO;
 
-/// Puts `b` at `at` and answers the next place.
-pub(crate) fn put(out: &mut [u8], at: usize, b: u8) -> usize {
-    if at < out.len() {
-        out[at] = b;
-        return at + 1;
-    }
-    at
+/// A line as far as it is made: words with a space after each, `used` bytes, of which the last word ends at `end`. What does not
+/// fit is left out; it holds the longest line.
+pub(crate) struct Text {
+    pub(crate) bytes: [u8; 16640],
+    pub(crate) used: usize,
+    pub(crate) end: usize,
 }
 
-/// Puts the text as it is.
-pub(crate) fn text(out: &mut [u8], at: usize, s: &[u8]) -> usize {
-    let mut to = at;
-    let mut i = 0;
-    while i < s.len() {
-        to = put(out, to, s[i]);
-        i += 1;
-    }
-    to
-}
-
-/// Puts `n` in decimal.
-pub(crate) fn number(out: &mut [u8], at: usize, n: u64) -> usize {
-    let mut digits = [0u8; 20];
-    let k = io::decimal(n, &mut digits);
-    text(out, at, &digits[..k])
-}
-
-fn digit(d: u8) -> u8
-    requires { ⌜ d < 16 ⌝ }
+pub(crate) fn least(a: usize, b: usize) -> usize
+    ensures { λ r. ⌜ (r ≤ a) × (r ≤ b) ⌝ }
 {
-    if d < 10 { 48 + d } else { 55 + d }
-}
-
-/// Puts `b` as two upper-case hexadecimal digits.
-pub(crate) fn hex(out: &mut [u8], at: usize, b: u8) -> usize {
-    let next = put(out, at, digit(b / 16));
-    put(out, next, digit(b % 16))
-}
-
-/// Puts the bytes in hexadecimal, `-` if there is none.
-pub(crate) fn bytes(out: &mut [u8], at: usize, s: &[u8]) -> usize {
-    if s.len() == 0 {
-        return put(out, at, b'-');
-    }
-    let mut to = at;
-    let mut i = 0;
-    while i < s.len() {
-        to = hex(out, to, s[i]);
-        i += 1;
-    }
-    to
+    if a < b { a } else { b }
 }
 
 /// `n`, or the length of `s` if that is less: how many of its first bytes are meant.
@@ -63,9 +25,83 @@ pub(crate) fn within(n: usize, s: &[u8]) -> usize
     if n < s.len() { n } else { s.len() }
 }
 
-/// Writes the first `at` bytes of the line and its end. False: they could not be written.
-pub(crate) fn line(out: &mut [u8], at: usize) -> bool {
-    let end = put(out, at, b'\n');
-    let n = within(end, out);
-    io::write_all(STDOUT_FILENO, &out[..n])
+// The upper-case hexadecimal digit of a byte's lower half.
+fn digit(b: u8) -> u8 {
+    let d = b % 16;
+    if d < 10 { 48 + d } else { 55 + d }
+}
+
+impl Text {
+    pub(crate) fn empty() -> Text {
+        Text {
+            bytes: [0; 16640],
+            used: 0,
+            end: 0,
+        }
+    }
+
+    /// With these bytes as they are, and the byte `last`.
+    pub(crate) fn add(self, s: &[u8], last: u8) -> Text {
+        let mut t = self;
+        let at = least(self.used, 16639);
+        let n = least(s.len(), 16639 - at);
+        let mut i = 0;
+        while i < n {
+            t.bytes[at + i] = s[i];
+            i += 1;
+        }
+        let end = at + n;
+        t.bytes[end] = last;
+        t.used = end + 1;
+        t.end = end;
+        t
+    }
+
+    pub(crate) fn word(self, s: &[u8]) -> Text {
+        self.add(s, b' ')
+    }
+
+    /// With `n` in decimal.
+    pub(crate) fn number(self, n: u64) -> Text {
+        let mut digits = [0u8; 20];
+        let k = io::decimal(n, &mut digits);
+        self.add(&digits[..k], b' ')
+    }
+
+    /// With the bytes as pairs of upper-case hexadecimal digits.
+    pub(crate) fn hex(self, s: &[u8]) -> Text {
+        let mut t = self;
+        let at = least(self.used, 16639);
+        let n = least(s.len(), (16639 - at) / 2);
+        let mut i = 0;
+        while i < n {
+            let b = s[i];
+            t.bytes[at + 2 * i] = digit(b / 16);
+            t.bytes[at + 2 * i + 1] = digit(b);
+            i += 1;
+        }
+        let end = at + 2 * n;
+        t.bytes[end] = b' ';
+        t.used = end + 1;
+        t.end = end;
+        t
+    }
+
+    /// With the bytes in hexadecimal, `-` if there is none.
+    pub(crate) fn hex_or_dash(self, s: &[u8]) -> Text {
+        if s.len() == 0 {
+            return self.word(b"-");
+        }
+        self.hex(s)
+    }
+
+    /// Writes the line. False: it could not be written.
+    pub(crate) fn print(self) -> bool {
+        let mut t = self;
+        let end = least(self.end, 16639);
+        t.bytes[end] = b'\n';
+        let bytes = t.bytes;
+        let n = within(end + 1, &bytes);
+        io::write_all(STDOUT_FILENO, &bytes[..n])
+    }
 }

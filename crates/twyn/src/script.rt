@@ -1,177 +1,134 @@
-// A line of a script, parsed: which command, its numbers, and how many bytes it brought.
+// A line of a script, parsed: which command, its numbers and its bytes.
 ghost use Prim.Native.Nat.{_≤_};
-ghost use lib.ListN.{length};
 use crate::words;
+use lists::parts::same_bytes;
 
-/// The commands, and what is none.
-pub(crate) enum Command {
-    New,
-    Format,
-    Check,
-    Allocate,
-    Assign,
-    Close,
-    Rewind,
-    Delete,
-    Read,
-    Write,
-    Update,
-    Poke,
-    Sector,
-    Desk,
-    Sum,
-    Unreadable,
-}
+// The commands, by their places among the names. Those before `CHECK` may change the image.
+pub(crate) const NEW: usize = 0;
 
-/// A command's words: how many with its name, and which of them is bytes (0: none). The others are numbers.
-pub(crate) struct Shape {
-    pub(crate) words: usize,
-    pub(crate) bytes: usize,
-}
+pub(crate) const POKE: usize = 1;
 
-/// A parsed line: its numbers by their places among the words, 0 where none stands, and how many bytes it brought.
+pub(crate) const FORMAT: usize = 2;
+
+pub(crate) const ALLOCATE: usize = 3;
+
+pub(crate) const DELETE: usize = 4;
+
+pub(crate) const WRITE: usize = 5;
+
+pub(crate) const UPDATE: usize = 6;
+
+pub(crate) const CHECK: usize = 7;
+
+pub(crate) const ASSIGN: usize = 8;
+
+pub(crate) const CLOSE: usize = 9;
+
+pub(crate) const REWIND: usize = 10;
+
+pub(crate) const READ: usize = 11;
+
+pub(crate) const SECTOR: usize = 12;
+
+pub(crate) const DESK: usize = 13;
+
+pub(crate) const SUM: usize = 14;
+
+pub(crate) const UNREADABLE: usize = 15;
+
+pub(crate) const NOTHING: usize = 16;
+
+/// A parsed line: its numbers by their places among the words, 0 where none stands, and its bytes, the first `count` of `data`.
 pub(crate) struct Call {
-    pub(crate) command: Command,
+    pub(crate) command: usize,
     pub(crate) one: u32,
     pub(crate) two: u32,
     pub(crate) three: u32,
     pub(crate) four: u32,
     pub(crate) five: u32,
     pub(crate) count: usize,
+    pub(crate) data: [u8; 8192],
 }
 
-// The service's calls by name.
-fn call_named(word: &[u8]) -> Command {
-    if words::same(word, b"format") {
-        return Command::Format;
+// Which command the word names.
+fn named(word: &[u8]) -> usize
+    ensures { λ r. ⌜ r ≤ 15 ⌝ }
+{
+    let names =
+        b"new poke format allocate delete write update check assign close rewind read sector desk sum";
+    let mut k = 0;
+    while k < UNREADABLE {
+        if same_bytes(word, words::word(names, k)) {
+            return k;
+        }
+        k += 1;
     }
-    if words::same(word, b"check") {
-        return Command::Check;
-    }
-    if words::same(word, b"allocate") {
-        return Command::Allocate;
-    }
-    if words::same(word, b"assign") {
-        return Command::Assign;
-    }
-    if words::same(word, b"close") {
-        return Command::Close;
-    }
-    if words::same(word, b"rewind") {
-        return Command::Rewind;
-    }
-    if words::same(word, b"delete") {
-        return Command::Delete;
-    }
-    if words::same(word, b"read") {
-        return Command::Read;
-    }
-    if words::same(word, b"write") {
-        return Command::Write;
-    }
-    if words::same(word, b"update") {
-        return Command::Update;
-    }
-    Command::Unreadable
+    k
 }
 
-// The program's own commands by name, and then the service's.
-fn named(word: &[u8]) -> Command {
-    if words::same(word, b"new") {
-        return Command::New;
-    }
-    if words::same(word, b"poke") {
-        return Command::Poke;
-    }
-    if words::same(word, b"sector") {
-        return Command::Sector;
-    }
-    if words::same(word, b"desk") {
-        return Command::Desk;
-    }
-    if words::same(word, b"sum") {
-        return Command::Sum;
-    }
-    call_named(word)
+// How many words a command has, with its name.
+fn words_of(command: usize) -> usize
+    requires { ⌜ command ≤ 15 ⌝ }
+{
+    let words = [2, 3, 3, 6, 3, 6, 6, 1, 6, 3, 3, 6, 2, 1, 1, 0];
+    words[command]
 }
 
-fn shape_of(c: Command) -> Shape {
-    match c {
-        Command::New => Shape { words: 2, bytes: 0 },
-        Command::Format => Shape { words: 3, bytes: 1 },
-        Command::Check => Shape { words: 1, bytes: 0 },
-        Command::Allocate => Shape { words: 6, bytes: 2 },
-        Command::Assign => Shape { words: 6, bytes: 3 },
-        Command::Close => Shape { words: 3, bytes: 0 },
-        Command::Rewind => Shape { words: 3, bytes: 0 },
-        Command::Delete => Shape { words: 3, bytes: 2 },
-        Command::Read => Shape { words: 6, bytes: 0 },
-        Command::Write => Shape { words: 6, bytes: 5 },
-        Command::Update => Shape { words: 6, bytes: 5 },
-        Command::Poke => Shape { words: 3, bytes: 2 },
-        Command::Sector => Shape { words: 2, bytes: 0 },
-        Command::Desk => Shape { words: 1, bytes: 0 },
-        Command::Sum => Shape { words: 1, bytes: 0 },
-        Command::Unreadable => Shape { words: 0, bytes: 0 },
-    }
+// Which word of a command is bytes, 0 if none is. The others are numbers.
+fn bytes_at(command: usize) -> usize
+    requires { ⌜ command ≤ 15 ⌝ }
+{
+    let places = [0, 2, 1, 2, 2, 5, 5, 0, 3, 0, 0, 0, 0, 0, 0, 0];
+    places[command]
 }
 
 // The number at word `k`, or 0 where the command has none there.
-fn number(line: &[u8], s: Shape, k: usize) -> words::Number {
-    if (s.words <= k) | (s.bytes == k) {
+fn number(line: &[u8], words: usize, bytes: usize, k: usize) -> words::Number {
+    if (words <= k) | (bytes == k) {
         return words::Number { ok: true, value: 0 };
     }
     words::number_of(words::word(line, k))
 }
 
-// The bytes of the command's word of bytes, or none where it has no such word.
-fn bytes(line: &[u8], s: Shape, into: &mut [u8]) -> words::Bytes
-    ensures { λ r. ⌜ r .count ≤ length (now (into .exit)) ⌝ }
-{
-    let at = s.bytes;
+// The bytes of word `at`, or none if that is the command's name.
+fn bytes(line: &[u8], at: usize) -> words::Bytes {
     if at == 0 {
-        return words::Bytes { ok: true, count: 0 };
+        return words::no_bytes(true);
     }
-    words::bytes_of(words::word(line, at), into)
+    words::bytes_of(words::word(line, at))
 }
 
-fn unreadable() -> Call
-    ensures { λ r. ⌜ r .count ≤ 0 ⌝ }
-{
-    Call {
-        command: Command::Unreadable,
-        one: 0,
-        two: 0,
-        three: 0,
-        four: 0,
-        five: 0,
-        count: 0,
+// The command that a line has: `NOTHING` if it has no word, and `UNREADABLE` if its words are not the command's, or it is too long.
+fn judged(command: usize, ok: bool, empty: bool, over: bool) -> usize {
+    if empty & !over {
+        return NOTHING;
     }
+    if ok { command } else { UNREADABLE }
 }
 
-/// The line, parsed; its bytes stand at the start of `into`.
-pub(crate) fn parsed(line: &[u8], into: &mut [u8]) -> Call
-    ensures { λ r. ⌜ r .count ≤ length (now (into .exit)) ⌝ }
-{
+/// The line, parsed; `over`: it is too long.
+pub(crate) fn parsed(line: &[u8], over: bool) -> Call {
     let command = named(words::word(line, 0));
-    let s = shape_of(command);
-    let one = number(line, s, 1);
-    let two = number(line, s, 2);
-    let three = number(line, s, 3);
-    let four = number(line, s, 4);
-    let five = number(line, s, 5);
-    let brought = bytes(line, s, into);
-    let ok = one.ok & two.ok & three.ok & four.ok & five.ok & brought.ok;
-    if !ok | (words::count(line) != s.words) {
-        return unreadable();
-    }
+    let words = words_of(command);
+    let at = bytes_at(command);
+    let one = number(line, words, at, 1);
+    let two = number(line, words, at, 2);
+    let three = number(line, words, at, 3);
+    let four = number(line, words, at, 4);
+    let five = number(line, words, at, 5);
+    let brought = bytes(line, at);
+    let more = words::word(line, words).len() != 0;
+    let flag = (command != ASSIGN) | (five.value <= 1);
+    let ok = one.ok & two.ok & three.ok & four.ok & five.ok & brought.ok & !more & flag;
+    let data = brought.bytes;
     Call {
-        command: command,
+        command: judged(command, ok, line.len() == 0, over),
         one: one.value,
         two: two.value,
         three: three.value,
         four: four.value,
         five: five.value,
         count: brought.count,
+        data: data,
     }
 }

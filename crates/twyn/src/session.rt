@@ -1,294 +1,211 @@
 // A running script: what it has brought about so far, and what each command does to it.
 use crate::answers;
+use crate::calls;
 use crate::image;
 use crate::listing;
 use crate::print;
+use crate::print::Text;
 use crate::script;
 use crate::script::Call;
-use crate::script::Command;
 use crate::store;
+use crate::store::Room;
 use desk::Desk;
 use desk::Reply;
+use desk::answers::accepts;
 
 /// The desk, the image's length, and whether the image was changed; whether it is known that it can be written back; whether the
-/// run is broken, so that nothing is written back, or the script has ended; and of the line that is being read, how many of its
-/// bytes are there, whether it is too long, and whether its comment has begun.
+/// run is broken, so that nothing is written back; and the line that is to be printed.
 pub(crate) struct Session {
     pub(crate) desk: Desk,
     pub(crate) size: usize,
     pub(crate) changed: bool,
     pub(crate) ready: bool,
     pub(crate) broken: bool,
-    pub(crate) ended: bool,
-    pub(crate) used: usize,
-    pub(crate) over: bool,
-    pub(crate) comment: bool,
+    pub(crate) line: Text,
 }
 
-/// A session over an image of `size` bytes. `ready`: nothing is to be written back.
-pub(crate) fn start(size: usize, ready: bool) -> Session {
+/// A session over an image of `size` bytes, if it is `ok`. `ready`: nothing is to be written back.
+pub(crate) fn start(ok: bool, size: usize, ready: bool) -> Session {
     let d = Desk::empty();
+    let t = Text::empty();
     Session {
         desk: d,
         size: size,
         changed: false,
         ready: ready,
-        broken: false,
-        ended: false,
-        used: 0,
-        over: false,
-        comment: false,
+        broken: !ok,
+        line: t,
     }
 }
 
-// Prints the line that stands in `out`.
-fn told(out: &mut [u8], at: usize, s: Session) -> Session {
-    let mut t = s;
-    if !print::line(out, at) {
-        os::fail(b"standard output");
-        t.broken = true;
-    }
-    t
+// With this line to print.
+fn said(s: Session, t: Text) -> Session {
+    let mut u = s;
+    u.line = t;
+    u
 }
 
-fn unread(out: &mut [u8], s: Session) -> Session {
-    let at = print::put(out, 0, b'?');
-    told(out, at, s)
-}
-
-// The session after a call, which may change the image if it `writes`.
-fn after(s: Session, r: Reply, writes: bool) -> Session {
-    let a = r.answer;
+// With a call's desk, and its answer to print.
+fn replied(s: Session, r: Reply) -> Session {
     let d = r.desk;
-    let mut t = s;
+    let a = r.answer;
+    let mut t = said(s, answers::line(a));
     t.desk = d;
-    t.changed = s.changed | (writes & answers::is_done(a));
     t
 }
 
-fn reply(out: &mut [u8], s: Session, r: Reply, writes: bool) -> Session {
-    let a = r.answer;
-    let at = answers::answer(out, a);
-    told(out, at, after(s, r, writes))
-}
-
-// `new`: the image is zeros, of which the array holds enough, and the desk is empty.
-fn fresh(whole: &mut [u8], out: &mut [u8], s: Session, n: u32) -> Session {
-    let size = print::within(n as usize, whole);
-    if size != n as usize {
-        return unread(out, s);
+// `new`: the image, which is as long as was asked, is zeros, and the desk is empty.
+fn fresh(image: &mut [u8], s: Session, n: u32) -> Session {
+    if n as usize != s.size {
+        return s;
     }
-    image::fill(&mut whole[..size], 0);
-    let next = print::text(out, 0, b"new ");
-    let at = print::number(out, next, n as u64);
+    image::clear(image);
     let d = Desk::empty();
-    let mut t = s;
+    let mut t = said(s, Text::empty().word(b"new").number(n as u64));
     t.desk = d;
-    t.size = size;
     t.changed = true;
-    told(out, at, t)
+    t
 }
 
-fn poke(image: &mut [u8], out: &mut [u8], s: Session, call: Call, data: &[u8]) -> Session {
-    if !image::poke(image, call.one as usize, data) {
-        return unread(out, s);
+fn poke(image: &mut [u8], s: Session, at: u32, data: &[u8]) -> Session {
+    if !image::poke(image, at as usize, data) {
+        return s;
     }
-    let at = print::text(out, 0, b"poke");
-    let mut t = s;
+    let mut t = said(s, Text::empty().word(b"poke"));
     t.changed = true;
-    told(out, at, t)
+    t
 }
 
-fn sector(image: &[u8], out: &mut [u8], s: Session, call: Call) -> Session {
-    let from = 256 * call.one as usize;
-    let to = from + 256;
-    if image.len() < to {
-        return unread(out, s);
-    }
-    let at = print::bytes(out, 0, &image[from..to]);
-    told(out, at, s)
-}
-
-fn desk_line(out: &mut [u8], s: Session) -> Session {
+// A call that may change the image.
+fn serve(image: &mut [u8], s: Session, call: Call, data: &[u8]) -> Session {
     let d = s.desk;
-    let at = listing::desk(out, d);
-    told(out, at, s)
-}
-
-fn sum(image: &[u8], out: &mut [u8], s: Session) -> Session {
-    let one = print::number(out, 0, image.len() as u64);
-    let two = print::put(out, one, b' ');
-    let at = print::number(out, two, image::adler(image) as u64);
-    told(out, at, s)
-}
-
-fn format(image: &mut [u8], out: &mut [u8], s: Session, call: Call, data: &[u8]) -> Session {
-    let d = s.desk;
-    let r = d.format(image, data, call.two);
-    reply(out, s, r, true)
-}
-
-fn check(image: &[u8], out: &mut [u8], s: Session) -> Session {
-    let d = s.desk;
-    let r = d.check(image);
-    reply(out, s, r, false)
-}
-
-fn allocate(image: &mut [u8], out: &mut [u8], s: Session, call: Call, data: &[u8]) -> Session {
-    let d = s.desk;
-    let r = d.allocate(image, call.one, data, call.three, call.four, call.five);
-    reply(out, s, r, true)
-}
-
-fn assign(image: &[u8], out: &mut [u8], s: Session, call: Call, data: &[u8]) -> Session {
-    if 1 < call.five {
-        return unread(out, s);
-    }
-    let d = s.desk;
-    let r = d.assign(image, call.one, call.two, data, call.four, call.five == 1);
-    reply(out, s, r, false)
-}
-
-fn close(image: &[u8], out: &mut [u8], s: Session, call: Call) -> Session {
-    let d = s.desk;
-    let r = d.close(image, call.one, call.two);
-    reply(out, s, r, false)
-}
-
-fn rewind(image: &[u8], out: &mut [u8], s: Session, call: Call) -> Session {
-    let d = s.desk;
-    let r = d.rewind(image, call.one, call.two);
-    reply(out, s, r, false)
-}
-
-fn delete(image: &mut [u8], out: &mut [u8], s: Session, call: Call, data: &[u8]) -> Session {
-    let d = s.desk;
-    let r = d.delete(image, call.one, data);
-    reply(out, s, r, true)
+    let r = calls::change(d, image, call, data);
+    let a = r.answer;
+    let mut t = replied(s, r);
+    t.changed = s.changed | accepts(a);
+    t
 }
 
 // `read`: every byte of the buffer is EE before the call, and it is printed after it, refused or not.
-fn read(image: &[u8], out: &mut [u8], s: Session, call: Call, buffer: &mut [u8]) -> Session {
+fn read(image: &[u8], s: Session, call: Call) -> Session {
+    let mut buffer = [0xEEu8; 8192];
     let asked = call.five as usize;
-    let n = print::within(asked, buffer);
+    let n = print::within(asked, &buffer);
     if n != asked {
-        return unread(out, s);
+        return s;
     }
     let lent = &mut buffer[..n];
-    image::fill(lent, 0xEE);
     let d = s.desk;
-    let r = d.read(image, call.one, call.two, call.three, call.four, lent);
-    let a = r.answer;
-    let one = answers::answer(out, a);
-    let two = print::put(out, one, b' ');
-    let at = print::bytes(out, two, lent);
-    told(out, at, after(s, r, false))
+    let t = replied(
+        s,
+        d.read(image, call.one, call.two, call.three, call.four, lent),
+    );
+    let line = t.line;
+    said(t, line.hex_or_dash(lent))
 }
 
-fn write(image: &mut [u8], out: &mut [u8], s: Session, call: Call, data: &[u8]) -> Session {
-    let d = s.desk;
-    let r = d.write(image, call.one, call.two, call.three, call.four, data);
-    reply(out, s, r, true)
+fn sector(image: &[u8], t: Text, number: u32) -> Text {
+    let from = 256 * number as usize;
+    let to = from + 256;
+    if image.len() < to {
+        return t;
+    }
+    Text::empty().hex(&image[from..to])
 }
 
-fn update(image: &mut [u8], out: &mut [u8], s: Session, call: Call, data: &[u8]) -> Session {
-    let d = s.desk;
-    let r = d.update(image, call.one, call.two, call.three, call.four, data);
-    reply(out, s, r, true)
+fn sum(image: &[u8]) -> Text {
+    let size = image.len() as u64;
+    Text::empty()
+        .number(size)
+        .number(image::adler(image) as u64)
 }
 
-// One command on the image as long as it is now; `new`, which needs the whole array, is done by `step`.
-fn perform(image: &mut [u8], out: &mut [u8], s: Session, call: Call, data: &mut [u8]) -> Session {
-    let n = print::within(call.count, data);
-    let c = call.command;
-    match c {
-        Command::New => unread(out, s),
-        Command::Format => format(image, out, s, call, &data[..n]),
-        Command::Check => check(image, out, s),
-        Command::Allocate => allocate(image, out, s, call, &data[..n]),
-        Command::Assign => assign(image, out, s, call, &data[..n]),
-        Command::Close => close(image, out, s, call),
-        Command::Rewind => rewind(image, out, s, call),
-        Command::Delete => delete(image, out, s, call, &data[..n]),
-        Command::Read => read(image, out, s, call, data),
-        Command::Write => write(image, out, s, call, &data[..n]),
-        Command::Update => update(image, out, s, call, &data[..n]),
-        Command::Poke => poke(image, out, s, call, &data[..n]),
-        Command::Sector => sector(image, out, s, call),
-        Command::Desk => desk_line(out, s),
-        Command::Sum => sum(image, out, s),
-        Command::Unreadable => unread(out, s),
+// What a command prints that only prints; one that cannot leaves the line that it got.
+fn shown(image: &[u8], t: Text, d: Desk, command: usize, number: u32) -> Text {
+    match command {
+        script::SECTOR => sector(image, t, number),
+        script::DESK => listing::desk(d),
+        script::SUM => sum(image),
+        _ => t,
     }
 }
 
-// Whether a command may change the image.
-fn changes(c: Command) -> bool {
-    match c {
-        Command::New => true,
-        Command::Format => true,
-        Command::Check => false,
-        Command::Allocate => true,
-        Command::Assign => false,
-        Command::Close => false,
-        Command::Rewind => false,
-        Command::Delete => true,
-        Command::Read => false,
-        Command::Write => true,
-        Command::Update => true,
-        Command::Poke => true,
-        Command::Sector => false,
-        Command::Desk => false,
-        Command::Sum => false,
-        Command::Unreadable => false,
+// A command that only looks at the image.
+fn look(image: &[u8], s: Session, call: Call, data: &[u8]) -> Session {
+    let d = s.desk;
+    let t = s.line;
+    let command = call.command;
+    if command <= script::REWIND {
+        return replied(s, calls::ask(d, image, call, data));
+    }
+    if command == script::READ {
+        return read(image, s, call);
+    }
+    said(s, shown(image, t, d, command, call.one))
+}
+
+// A command on the image.
+fn work(image: &mut [u8], s: Session, call: Call) -> Session {
+    let bytes = call.data;
+    let n = print::within(call.count, &bytes);
+    let data = &bytes[..n];
+    let command = call.command;
+    match command {
+        script::NEW => fresh(image, s, call.one),
+        script::POKE => poke(image, s, call.one, data),
+        script::FORMAT..=script::UPDATE => serve(image, s, call, data),
+        _ => look(image, s, call, data),
     }
 }
 
-fn is_new(c: Command) -> bool {
-    if let Command::New = c { true } else { false }
-}
-
-// Before the first command that may change the image it is seen to that it can be written back; otherwise the run ends there,
-// with nothing changed.
-fn readied(path: &[u8], s: Session, c: Command) -> Session {
-    if s.ready | !changes(c) {
+// `new` makes the image as long as it says, if there is room.
+fn sized(s: Session, call: Call) -> Session {
+    let n = call.one as usize;
+    if (call.command != script::NEW) | (524544 < n) {
         return s;
     }
     let mut t = s;
-    if store::can_save(path) {
-        t.ready = true;
-    } else {
-        t.broken = true;
-    }
+    t.size = n;
     t
 }
 
-// A parsed line, on the image as long as it is now.
-fn done(whole: &mut [u8], out: &mut [u8], s: Session, call: Call, data: &mut [u8]) -> Session {
-    if s.broken {
-        return s;
-    }
-    let c = call.command;
-    if is_new(c) {
-        return fresh(whole, out, s, call.one);
-    }
+fn done(whole: &mut [u8], s: Session, call: Call) -> Session {
     let n = print::within(s.size, whole);
-    perform(&mut whole[..n], out, s, call, data)
+    work(&mut whole[..n], s, call)
 }
 
-/// A whole line of the script, that has a word. `path` is the image's; `data` gets a line's bytes or is a read's buffer, and `out`
-/// gets the printed line.
-pub(crate) fn step(
-    path: &[u8],
-    line: &[u8],
-    whole: &mut [u8],
-    out: &mut [u8],
-    data: &mut [u8],
-    s: Session,
-) -> Session {
-    if s.over {
-        return unread(out, s);
+// Before the first command that may change the image it is seen to that it can be written back; otherwise the run ends there,
+// with nothing changed. A command that does nothing leaves the line that it begins with.
+fn readied(name: &[u8], s: Session, command: usize) -> Session {
+    let mut t = said(s, Text::empty().word(b"?"));
+    if s.ready | (script::CHECK <= command) {
+        return t;
     }
-    let call = script::parsed(line, data);
-    let c = call.command;
-    done(whole, out, readied(path, s, c), call, data)
+    t.ready = store::can_save(name);
+    t.broken = !t.ready;
+    t
+}
+
+// Prints the line.
+fn told(s: Session) -> Session {
+    let line = s.line;
+    if line.print() {
+        return s;
+    }
+    os::fail(b"standard output");
+    let mut t = s;
+    t.broken = true;
+    t
+}
+
+/// Carries a line of the script out. `name` is the file that the image would be written to first.
+pub(crate) fn step(name: &[u8], whole: &mut Room, s: Session, call: Call) -> Session {
+    if call.command == script::NOTHING {
+        return s;
+    }
+    let t = readied(name, s, call.command);
+    if t.broken {
+        return t;
+    }
+    told(done(whole, sized(t, call), call))
 }

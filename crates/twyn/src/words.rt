@@ -1,6 +1,8 @@
-// The words of a line: how many, which, and what a word says as a number or as bytes.
+// The words of a line: which, and what a word says as a number or as bytes.
 ghost use Prim.Native.Nat.{_≤_, _<_};
 ghost use lib.ListN.{length};
+use crate::print::least;
+use lists::parts::same_bytes;
 
 /// A number read from a word, if `ok`.
 pub(crate) struct Number {
@@ -8,10 +10,11 @@ pub(crate) struct Number {
     pub(crate) value: u32,
 }
 
-/// How many bytes were read from a word, if `ok`.
+/// The bytes read from a word, if `ok`: the first `count` of them.
 pub(crate) struct Bytes {
     pub(crate) ok: bool,
     pub(crate) count: usize,
+    pub(crate) bytes: [u8; 8192],
 }
 
 // The first place from `at` on that is a space, or that is none, or the end.
@@ -29,155 +32,85 @@ fn until(line: &[u8], at: usize, space: bool) -> usize
     i
 }
 
-// Where the next word from `at` on ends.
-fn after(line: &[u8], at: usize) -> usize
-    requires { ⌜ at ≤ length (now line) ⌝ }
-    ensures { λ r. ⌜ r ≤ length (now (line .entry)) ⌝ }
-{
-    until(line, until(line, at, false), true)
-}
-
 /// Word `k` of the line, counted from 0; empty if there is none.
 pub(crate) fn word(line: &[u8], k: usize) -> &[u8] {
-    let mut at = 0;
+    let mut from = until(line, 0, false);
     let mut i = 0;
     while i < k {
-        at = after(line, at);
+        from = until(line, until(line, from, true), false);
         i += 1;
     }
-    let from = until(line, at, false);
     let to = until(line, from, true);
     &line[from..to]
 }
 
-/// How many words the line has.
-pub(crate) fn count(line: &[u8]) -> usize {
-    let mut words = 0;
-    let mut inside = false;
-    let mut i = 0;
-    while i < line.len() {
-        let space = line[i] == b' ';
-        if !inside & !space {
-            words += 1;
-        }
-        inside = !space;
-        i += 1;
+// A digit's value, hexadecimal in either case, or 16.
+fn digit(b: u8) -> u8
+    ensures { λ r. ⌜ r ≤ 16 ⌝ }
+{
+    match b {
+        b'0'..=b'9' => b - b'0',
+        b'A'..=b'F' => b - b'A' + 10,
+        b'a'..=b'f' => b - b'a' + 10,
+        _ => 16,
     }
-    words
 }
 
-/// Whether two words are the same.
-pub(crate) fn same(a: &[u8], b: &[u8]) -> bool {
-    if a.len() != b.len() {
-        return false;
-    }
-    let mut i = 0;
-    while i < a.len() {
-        if a[i] != b[i] {
-            return false;
-        }
-        i += 1;
-    }
-    true
-}
-
-fn no_number() -> Number {
-    Number {
-        ok: false,
-        value: 0,
-    }
+// A number one digit longer; one past 4,294,967,295 stays past it.
+fn longer(value: u64, digit: u8) -> u64
+    requires { ⌜ (value ≤ 4294967296) × (digit ≤ 16) ⌝ }
+    ensures { λ r. ⌜ r ≤ 4294967296 ⌝ }
+{
+    let next = 10 * value + digit as u64;
+    if next < 4294967296 { next } else { 4294967296 }
 }
 
 /// The decimal number that the word says: 0 to 4,294,967,295.
 pub(crate) fn number_of(word: &[u8]) -> Number {
-    if word.len() == 0 {
-        return no_number();
-    }
+    let mut ok = 0 < word.len();
     let mut value: u64 = 0;
     let mut i = 0;
     while i < word.len() {
-        let b = word[i];
-        if b < b'0' {
-            return no_number();
-        }
-        if b'9' < b {
-            return no_number();
-        }
-        value = 10 * value + (b - b'0') as u64;
-        if 4294967295 < value {
-            return no_number();
-        }
+        let d = digit(word[i]);
+        ok = ok & (d < 10);
+        value = longer(value, d);
         i += 1;
     }
+    if value == 4294967296 {
+        return Number {
+            ok: false,
+            value: 0,
+        };
+    }
     Number {
-        ok: true,
+        ok: ok,
         value: value as u32,
     }
 }
 
-// A hexadecimal digit's value, or 16.
-fn digit(b: u8) -> u8
-    ensures { λ r. ⌜ r ≤ 16 ⌝ }
-{
-    if b < b'0' {
-        return 16;
-    }
-    if b <= b'9' {
-        return b - b'0';
-    }
-    if b < b'A' {
-        return 16;
-    }
-    if b <= b'F' {
-        return b - b'A' + 10;
-    }
-    if b < b'a' {
-        return 16;
-    }
-    if b <= b'f' {
-        return b - b'a' + 10;
-    }
-    16
-}
-
-fn no_bytes() -> Bytes
-    ensures { λ r. ⌜ r .count ≤ 0 ⌝ }
-{
+/// No bytes, which a word says if `ok`.
+pub(crate) fn no_bytes(ok: bool) -> Bytes {
     Bytes {
-        ok: false,
+        ok: ok,
         count: 0,
+        bytes: [0; 8192],
     }
 }
 
-/// Puts the bytes that the word says, in pairs of hexadecimal digits, at the start of `into`. `-` says none.
-pub(crate) fn bytes_of(word: &[u8], into: &mut [u8]) -> Bytes
-    ensures { λ r. ⌜ r .count ≤ length (now (into .exit)) ⌝ }
-{
-    if same(word, b"-") {
-        return Bytes { ok: true, count: 0 };
-    }
-    let pairs = word.len() / 2;
-    if (word.len() == 0) | (word.len() % 2 == 1) {
-        return no_bytes();
-    }
-    if into.len() < pairs {
-        return no_bytes();
-    }
+/// The bytes that the word says, in pairs of hexadecimal digits, at most 8,192. `-` says none.
+pub(crate) fn bytes_of(word: &[u8]) -> Bytes {
+    let pairs = least(word.len() / 2, 8192);
+    let mut ok = (0 < pairs) & (2 * pairs == word.len());
+    let mut b = no_bytes(ok);
     let mut i = 0;
     while i < pairs {
         let high = digit(word[2 * i]);
         let low = digit(word[2 * i + 1]);
-        if 15 < high {
-            return no_bytes();
-        }
-        if 15 < low {
-            return no_bytes();
-        }
-        into[i] = 16 * high + low;
+        ok = ok & (high < 16) & (low < 16);
+        b.bytes[i] = 16 * (high % 16) + low % 16;
         i += 1;
     }
-    Bytes {
-        ok: true,
-        count: pairs,
-    }
+    b.ok = ok | same_bytes(word, b"-");
+    b.count = pairs;
+    b
 }

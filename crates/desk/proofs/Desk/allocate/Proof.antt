@@ -1,111 +1,72 @@
-use denote.Ref.{now}
-use mathlib.Core.Path.{_≡_, sym, _∙_}
-use borrow.Author.Tests.{not-true, not-false, lt-ltb, le-ltb}
-use Rattle.desk.specs.declared.ready.Gate.the-variants.{Open}
-use Rattle.desk.specs.Answers.{judged}
-use Rattle.desk.specs.Ready.{readyOf}
-use Rattle.desk.proofs.Gates.{gate-shut, gate-open, gate-located, ready-sound}
-use Rattle.desk.specs.Calls.{allocate}
-use Rattle.desk.proofs.RestFiles.{allocate-rest}
+use mathlib.Core.Path.{sym, _∙_}
 use borrow.Author.Needs.{needs}
+use Rattle.lists.proofs.Tests.{and-left}
+use Rattle.desk.specs.Desk.{ready}
+use Rattle.desk.specs.Calls.{step, rules, given}
+use Rattle.desk.proofs.Openings.{begins, begun-refused}
+use Rattle.desk.proofs.Told.{allocate-told}
 use Rattle.desk.proofs.Desk.allocate.Statement.{statement}
 use Rattle.desk.proofs.Desk.allocate.Tie as tie
 
-ready-requires : tie.Need-ready-requires
-ready-requires c κs = search needs
+begin-requires : tie.Need-begin-requires
+begin-requires c κs = search needs
 
-enum-known-p : tie.Need-enum-known-p
-enum-known-p c = search needs
-
-enum-told : tie.Need-enum-told
-enum-told c = search needs
+enum-known-begun : tie.Need-enum-known-begun
+enum-known-begun c = search needs
 
 refused-requires : tie.Need-refused-requires
 refused-requires c κs = search needs
+
+enum-known-begun-2 : tie.Need-enum-known-begun-2
+enum-known-begun-2 c = search needs
+
+allocate-requires : tie.Need-allocate-requires
+unfolding ready
+allocate-requires c κs =
+    let at-begin = c .before .before .before .before .begin in
+    let at-begin = at-begin in
+    let begin = at-begin in
+    let b = begins _ _ _ (sym (begin .ensures) ∙ c .before .before .begun2 .given .1) in
+    (b .located, and-left _ _ (b .is-ready))
+
+answer-requires : tie.Need-answer-requires
+answer-requires c κs = search needs
 
 same-length : tie.Need-same-length
 same-length c = search needs
 
 returns : tie.Need-returns
-unfolding allocate judged
-returns c = simp (c .refused .ensures, gate-shut _ _ (sym (c .before .before .before .ready .ensures) ∙ c .before .enum-told .given .1))
-
-refused-requires-2 : tie.Need-refused-requires-2
-refused-requires-2 c κs = search needs
+unfolding step rules given
+returns c =
+    let at-begin = c .before .before .before .before .begin in
+    let at-begin = at-begin in
+    let begin = at-begin in
+    rw (c .refused .ensures) (sym (begun-refused _ _ _ (sym (begin .ensures) ∙ c .before .before .begun .given .1) _ _ _))
 
 same-length-2 : tie.Need-same-length-2
 same-length-2 c = search needs
 
-open-at : (c : tie.After-known-told) → readyOf (now (c .before .before .before .before .before .before .before .args .image)) (c .before .before .before .before .before .before .before .args .self) ≡ Open (c .before .p .given .0 .0)
-open-at c = sym (c .before .before .before .ready .ensures) ∙ c .before .p .given .1
-
 returns-2 : tie.Need-returns-2
-unfolding allocate judged
-returns-2 c = simp (c .refused2 .ensures, gate-open _ _ _ (open-at (c .before .before)), lt-ltb _ _ (c .before .if1 .taken))
-
-descriptor-requires : tie.Need-descriptor-requires
-descriptor-requires c κs = search needs
-
-refused-requires-3 : tie.Need-refused-requires-3
-refused-requires-3 c κs = search needs
-
-same-length-3 : tie.Need-same-length-3
-same-length-3 c = search needs
-
-returns-3 : tie.Need-returns-3
-unfolding allocate judged
-returns-3 c = simp (c .refused3 .ensures, gate-open _ _ _ (open-at (c .before .before .before .before)), le-ltb _ _ (c .before .before .before .if1 .left), sym (c .before .before .descriptor .ensures) ∙ not-true _ (c .before .if2 .taken))
-
-refused-requires-4 : tie.Need-refused-requires-4
-refused-requires-4 c κs = search needs
-
-same-length-4 : tie.Need-same-length-4
-same-length-4 c = search needs
-
-returns-4 : tie.Need-returns-4
-unfolding allocate judged
-returns-4 c =
-    simp (
-      c .refused4 .ensures,
-      gate-open _ _ _ (open-at (c .before .before .before .before .before)),
-      le-ltb _ _ (c .before .before .before .before .if1 .left),
-      sym (c .before .before .before .descriptor .ensures) ∙ not-false _ (c .before .before .if2 .left),
-      lt-ltb _ _ (c .before .if3 .taken),
-    )
-
-allocate-kind-requires : tie.Need-allocate-kind-requires
-allocate-kind-requires c κs =
-    let o = open-at (c .before .before .before .before .before) in
-    (gate-located _ _ _ o, ready-sound _ _ (gate-open _ _ _ o), sym (c .before .before .before .descriptor .ensures) ∙ not-false _ (c .before .before .if2 .left), c .before .if3 .left)
-
-same-length-5 : tie.Need-same-length-5
-same-length-5 c = search needs
-
-returns-5 : tie.Need-returns-5
-returns-5 c =
-    c .before .before .allocate-kind .ensures
-    ∙ allocate-rest _ _ _ _ _ _ _ (gate-open _ _ _ (open-at (c .before .before .before .before .before .before .before .before))) (le-ltb _ _ (c .before .before .before .before .before .before .before .if1 .left)) (sym (c .before .before .before .before .before .before .descriptor .ensures) ∙ not-false _ (c .before .before .before .before .before .if2 .left)) (le-ltb _ _ (c .before .before .before .before .if3 .left))
+returns-2 c =
+    let at-begin = c .before .before .before .before .before .before .before .before .begin in
+    let at-begun2 = c .before .before .before .before .before .before .begun2 in
+    let at-begin = at-begin in
+    let at-begun2 = at-begun2 in
+    let begin = at-begin in
+    let begun2 = at-begun2 in
+    rw (c .answer .ensures) (allocate-told _ _ _ _ _ (sym (begin .ensures) ∙ begun2 .given .1) _ _ _ _ _ (c .before .before .before .allocate .ensures))
 
 pub allocate-spec : {M : Type 1} → statement M
 allocate-spec =
     tie.close
     (tie.spec
-    ready-requires
-    enum-known-p
-    enum-told
+    begin-requires
+    enum-known-begun
     refused-requires
+    enum-known-begun-2
+    allocate-requires
+    answer-requires
     same-length
     returns
-    refused-requires-2
     same-length-2
-    returns-2
-    descriptor-requires
-    refused-requires-3
-    same-length-3
-    returns-3
-    refused-requires-4
-    same-length-4
-    returns-4
-    allocate-kind-requires
-    same-length-5
-    returns-5)
+    returns-2)

@@ -1,74 +1,74 @@
-use denote.Ref.{now}
-use mathlib.Core.Path.{_≡_, sym, _∙_}
-use mathlib.Core.Bool.{true}
-use borrow.Author.Tests.{not-true, not-false}
-use Rattle.desk.specs.Desk.{ready}
-use Rattle.desk.specs.Answers.{judged}
-use Rattle.desk.specs.Calls.{close}
-use Rattle.desk.proofs.Held.{mine-low}
-use Rattle.desk.proofs.Gates.{gate-shut, gate-open}
+use mathlib.Core.Path.{ap, sym, _∙_}
 use borrow.Author.Needs.{needs}
+use Rattle.desk.specs.Code.Opened.{begunOf}
+use Rattle.desk.specs.Calls.{step, rules, done, given, quietly}
+use Rattle.desk.proofs.Openings.{only-refused, only-done, begun-fine}
+use Rattle.desk.proofs.WhoseLun.{mine-low}
 use Rattle.desk.proofs.Desk.close.Statement.{statement}
 use Rattle.desk.proofs.Desk.close.Tie as tie
-
-ready-requires : tie.Need-ready-requires
-ready-requires c κs = search needs
-
-enum-told : tie.Need-enum-told
-enum-told c = search needs
-
-enum-told-2 : tie.Need-enum-told-2
-enum-told-2 c = search needs
-
-refused-requires : tie.Need-refused-requires
-refused-requires c κs = search needs
-
-returns : tie.Need-returns
-unfolding close judged
-returns c =
-    simp (c .refused .ensures, gate-shut _ _ (sym (c .before .before .before .ready .ensures) ∙ c .before .enum-told2 .given .1))
-
-opened : (c : tie.After-enum-told) → ready (now (c .before .before .before .before .args .image)) (c .before .before .before .before .args .self) ≡ true
-opened c = gate-open _ _ _ (sym (c .before .before .ready .ensures) ∙ c .enum-told .given .1)
 
 mine-requires : tie.Need-mine-requires
 mine-requires c κs = search needs
 
-refused-requires-2 : tie.Need-refused-requires-2
-refused-requires-2 c κs = search needs
+begin-requires : tie.Need-begin-requires
+begin-requires c κs = search needs
 
-returns-2 : tie.Need-returns-2
-unfolding close judged
-returns-2 c =
-    simp (c .refused2 .ensures, opened (c .before .before .before), sym (c .before .before .mine .ensures) ∙ not-true _ (c .before .if1 .taken))
+enum-known-begun : tie.Need-enum-known-begun
+enum-known-begun c = search needs
+
+refused-requires : tie.Need-refused-requires
+refused-requires c κs = search needs
+
+enum-told : tie.Need-enum-told
+enum-told c = search needs
 
 free-requires : tie.Need-free-requires
 free-requires c κs = search needs
 
 put-requires : tie.Need-put-requires
-put-requires c κs = mine-low _ _ _ (sym (c .before .before .mine .ensures) ∙ not-false _ (c .before .if1 .left))
+put-requires c κs =
+    let at-mine = c .before .before .before .before .mine in
+    let at-mine = at-mine in
+    let mine = at-mine in
+    mine-low _ _ _ (begun-fine _ _ _ (sym (c .before .before .before .begin .ensures ∙ ap (begunOf _) (mine .ensures)) ∙ c .before .enum-told .given .1))
 
 done-requires : tie.Need-done-requires
 done-requires c κs = search needs
 
-returns-3 : tie.Need-returns-3
-unfolding close judged
-returns-3 c =
-    simp (c .done .ensures, c .before .put .ensures, c .before .before .free .ensures, opened (c .before .before .before .before .before), sym (c .before .before .before .before .mine .ensures) ∙ not-false _ (c .before .before .before .if1 .left))
+returns : tie.Need-returns
+unfolding step rules done given
+returns c =
+    let at-mine = c .before .before .before .before .before .mine in
+    let at-begin = c .before .before .before .before .begin in
+    let at-mine = at-mine in
+    let at-begin = at-begin in
+    let mine = at-mine in
+    let begin = at-begin in
+    rw (c .refused .ensures) (sym (only-refused _ _ _ (sym (begin .ensures ∙ ap (begunOf _) (mine .ensures)) ∙ c .before .before .begun .given .1) _ _))
+
+returns-2 : tie.Need-returns-2
+unfolding step rules done given quietly
+returns-2 c =
+    let at-mine = c .before .before .before .before .before .before .mine in
+    let at-begin = c .before .before .before .before .before .begin in
+    let at-mine = at-mine in
+    let at-begin = at-begin in
+    let mine = at-mine in
+    let begin = at-begin in
+    rw (c .done .ensures, c .before .put .ensures, c .before .before .free .ensures)
+    (sym (only-done _ _ _ (sym (begin .ensures ∙ ap (begunOf _) (mine .ensures)) ∙ c .before .before .before .enum-told .given .1) _ _))
 
 pub close-spec : {M : Type 1} → statement M
 close-spec =
     tie.close
     (tie.spec
-    ready-requires
-    enum-told
-    enum-told-2
-    refused-requires
-    returns
     mine-requires
-    refused-requires-2
-    returns-2
+    begin-requires
+    enum-known-begun
+    refused-requires
+    enum-told
     free-requires
     put-requires
     done-requires
-    returns-3)
+    returns
+    returns-2)

@@ -1,5 +1,5 @@
-use Rattle.desk.specs.Desk.{emptyDesk}
 use borrow.Author.Needs.{needs}
+use Rattle.desk.specs.Desk.{emptyDesk}
 use Rattle.desk.proofs.Desk.empty.Statement.{statement}
 use Rattle.desk.proofs.Desk.empty.Tie as tie
 

@@ -1,6 +1,7 @@
 use mathlib.Core.Path.{refl}
-use Rattle.desk.specs.Desk.{freeLun, lunAt}
 use borrow.Author.Needs.{needs}
+use Rattle.luns.specs.Luns.{freeLun}
+use Rattle.desk.specs.Desk.{lunAt}
 use Rattle.desk.proofs.Desk.lun.Statement.{statement}
 use Rattle.desk.proofs.Desk.lun.Tie as tie
 

@@ -1,6 +1,7 @@
-use Rattle.desk.specs.Desk.{lunAt, freeLun}
-use Rattle.desk.proofs.Held.{mine-high, mine-is}
 use borrow.Author.Needs.{needs}
+use Rattle.luns.specs.Luns.{freeLun}
+use Rattle.desk.specs.Desk.{lunAt}
+use Rattle.desk.proofs.WhoseLun.{mine-high, mine-is}
 use Rattle.desk.proofs.Desk.mine.Statement.{statement}
 use Rattle.desk.proofs.Desk.mine.Tie as tie
 

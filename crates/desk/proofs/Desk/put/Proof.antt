@@ -1,6 +1,6 @@
 use mathlib.Core.Path.{refl}
-use Rattle.desk.specs.Desk.{putLun}
 use borrow.Author.Needs.{needs}
+use Rattle.desk.specs.Desk.{putLun}
 use Rattle.desk.proofs.Desk.put.Statement.{statement}
 use Rattle.desk.proofs.Desk.put.Tie as tie
 

@@ -1,81 +1,84 @@
-use denote.Ref.{now}
-use mathlib.Core.Path.{_≡_, sym, _∙_}
-use mathlib.Core.Bool.{true}
-use borrow.Author.Tests.{not-true, not-false}
-use Rattle.desk.specs.Desk.{ready, mine}
-use Rattle.desk.specs.Answers.{judged}
-use Rattle.desk.specs.Calls.{rewind}
-use Rattle.desk.proofs.Held.{mine-low}
-use Rattle.desk.proofs.Gates.{gate-shut, gate-open}
+use mathlib.Core.Path.{ap, sym, _∙_}
 use borrow.Author.Needs.{needs}
+use Rattle.desk.specs.Code.Opened.{begunOf}
+use Rattle.desk.specs.Calls.{step, rules, done, given, quietly}
+use Rattle.desk.proofs.Openings.{only-refused, only-done, begun-fine}
+use Rattle.desk.proofs.WhoseLun.{mine-low}
 use Rattle.desk.proofs.Desk.rewind.Statement.{statement}
 use Rattle.desk.proofs.Desk.rewind.Tie as tie
-
-ready-requires : tie.Need-ready-requires
-ready-requires c κs = search needs
-
-enum-told : tie.Need-enum-told
-enum-told c = search needs
-
-enum-told-2 : tie.Need-enum-told-2
-enum-told-2 c = search needs
-
-refused-requires : tie.Need-refused-requires
-refused-requires c κs = search needs
-
-returns : tie.Need-returns
-unfolding rewind judged
-returns c =
-    simp (c .refused .ensures, gate-shut _ _ (sym (c .before .before .before .ready .ensures) ∙ c .before .enum-told2 .given .1))
-
-opened : (c : tie.After-enum-told) → ready (now (c .before .before .before .before .args .image)) (c .before .before .before .before .args .self) ≡ true
-opened c = gate-open _ _ _ (sym (c .before .before .ready .ensures) ∙ c .enum-told .given .1)
 
 mine-requires : tie.Need-mine-requires
 mine-requires c κs = search needs
 
-refused-requires-2 : tie.Need-refused-requires-2
-refused-requires-2 c κs = search needs
+begin-requires : tie.Need-begin-requires
+begin-requires c κs = search needs
 
-returns-2 : tie.Need-returns-2
-unfolding rewind judged
-returns-2 c =
-    simp (c .refused2 .ensures, opened (c .before .before .before), sym (c .before .before .mine .ensures) ∙ not-true _ (c .before .if1 .taken))
+enum-known-begun : tie.Need-enum-known-begun
+enum-known-begun c = search needs
 
-mine-of : (c : tie.Else1) → mine (c .before .before .before .before .before .before .args .self) (c .before .before .before .before .before .before .args .caller) (c .before .before .before .before .before .before .args .lun) ≡ true
-mine-of c = sym (c .before .mine .ensures) ∙ not-false _ (c .if1 .left)
+refused-requires : tie.Need-refused-requires
+refused-requires c κs = search needs
+
+enum-told : tie.Need-enum-told
+enum-told c = search needs
 
 lun-requires : tie.Need-lun-requires
-lun-requires c κs = mine-low _ _ _ (mine-of c)
+lun-requires c κs = mine-low _ _ _ (begun-fine _ _ _ (sym (c .before .before .begin .ensures ∙ ap (begunOf _) (c .before .before .before .mine .ensures)) ∙ c .enum-told .given .1))
 
 moved-to-requires : tie.Need-moved-to-requires
 moved-to-requires c κs = search needs
 
 put-requires : tie.Need-put-requires
-put-requires c κs = mine-low _ _ _ (mine-of (c .before .before))
+put-requires c κs =
+    let at-mine = c .before .before .before .before .before .mine in
+    let at-begin = c .before .before .before .before .begin in
+    let at-mine = at-mine in
+    let at-begin = at-begin in
+    let mine = at-mine in
+    let begin = at-begin in
+    mine-low _ _ _ (begun-fine _ _ _ (sym (begin .ensures ∙ ap (begunOf _) (mine .ensures)) ∙ c .before .before .enum-told .given .1))
 
 done-requires : tie.Need-done-requires
 done-requires c κs = search needs
 
-returns-3 : tie.Need-returns-3
-unfolding rewind judged
-returns-3 c =
-    simp (c .done .ensures, c .before .put .ensures, c .before .before .moved-to .ensures, c .before .before .before .lun .ensures, opened (c .before .before .before .before .before .before), mine-of (c .before .before .before .before))
+returns : tie.Need-returns
+unfolding step rules done given
+returns c =
+    let at-mine = c .before .before .before .before .before .mine in
+    let at-begin = c .before .before .before .before .begin in
+    let at-mine = at-mine in
+    let at-begin = at-begin in
+    let mine = at-mine in
+    let begin = at-begin in
+    rw (c .refused .ensures) (sym (only-refused _ _ _ (sym (begin .ensures ∙ ap (begunOf _) (mine .ensures)) ∙ c .before .before .begun .given .1) _ _))
+
+returns-2 : tie.Need-returns-2
+unfolding step rules done given quietly
+returns-2 c =
+    let at-mine = c .before .before .before .before .before .before .before .mine in
+    let at-begin = c .before .before .before .before .before .before .begin in
+    let at-enum-told = c .before .before .before .before .enum-told in
+    let at-mine = at-mine in
+    let at-begin = at-begin in
+    let at-enum-told = at-enum-told in
+    let mine = at-mine in
+    let begin = at-begin in
+    let enum-told = at-enum-told in
+    rw (c .done .ensures, c .before .put .ensures, c .before .before .moved-to .ensures, c .before .before .before .lun .ensures)
+    (sym (only-done _ _ _ (sym (begin .ensures ∙ ap (begunOf _) (mine .ensures)) ∙ enum-told .given .1) _ _))
 
 pub rewind-spec : {M : Type 1} → statement M
 rewind-spec =
     tie.close
     (tie.spec
-    ready-requires
-    enum-told
-    enum-told-2
-    refused-requires
-    returns
     mine-requires
-    refused-requires-2
-    returns-2
+    begin-requires
+    enum-known-begun
+    refused-requires
+    enum-told
     lun-requires
     moved-to-requires
     put-requires
     done-requires
-    returns-3)
+    returns
+    returns-2)

@@ -1,6 +1,7 @@
-use Rattle.desk.specs.Desk.{lunAt, freeLun}
-use Rattle.desk.proofs.Held.{spare-high, spare-is}
 use borrow.Author.Needs.{needs}
+use Rattle.luns.specs.Luns.{freeLun}
+use Rattle.desk.specs.Desk.{lunAt}
+use Rattle.desk.proofs.WhoseLun.{spare-high, spare-is}
 use Rattle.desk.proofs.Desk.spare.Statement.{statement}
 use Rattle.desk.proofs.Desk.spare.Tie as tie
 

@@ -1,5 +1,5 @@
-use Rattle.desk.specs.Rest.{seatOf}
 use borrow.Author.Needs.{needs}
+use Rattle.desk.specs.Calls.{seatOf}
 use Rattle.desk.proofs.assigning.seat_of.Statement.{statement}
 use Rattle.desk.proofs.assigning.seat_of.Tie as tie
 

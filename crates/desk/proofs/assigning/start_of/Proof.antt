@@ -1,13 +1,13 @@
-use native.Mathlib.Omega.{arith}
-use Rattle.desk.proofs.Bounds.{extent-few}
 use mathlib.Core.Path.{_≡_, refl, sym, _∙_}
 use mathlib.Core.Bool.{_&&_}
-use borrow.Author.Tests.{not-true, not-false}
-use Rattle.ownership.specs.Bytes.{_and_}
-use Rattle.ownership.proofs.Bools.{and-of}
-use Rattle.desk.specs.Modes.{writes}
-use Rattle.desk.proofs.RestLaws.{start-plain, start-none, start-last}
+use native.Mathlib.Omega.{arith}
 use borrow.Author.Needs.{needs}
+use borrow.Author.Tests.{not-true, not-false}
+use Rattle.lists.specs.Lists.{_and_}
+use Rattle.lists.proofs.Bools.{and-of}
+use Rattle.luns.specs.Modes.{writes}
+use Rattle.desk.proofs.Starts.{start-plain, start-none, start-last}
+use Rattle.desk.proofs.Bounds.{extent-small}
 use Rattle.desk.proofs.assigning.start_of.Statement.{statement}
 use Rattle.desk.proofs.assigning.start_of.Tie as tie
 
@@ -31,8 +31,11 @@ sub-last c = search needs
 
 cast-last : tie.Need-cast-last
 cast-last c =
-    let s = c .before .before .before .before .before in
-    record { fits = omega (arith, extent-few _ _ _ (s .pre), c .before .extent-of .ensures) }
+    let at-before = c .before .before .before .before .before in
+    let at-before = at-before in
+    let before = at-before in
+    let s = before in
+    record { fits = omega (arith, extent-small _ _ _ (s .pre), c .before .extent-of .ensures) }
 
 returns-3 : tie.Need-returns-3
 returns-3 c =

@@ -2,8 +2,6 @@ use borrow.Author.Tests.{eq-eqb, ne-eqb}
 use Rattle.files.specs.Changes.{taken}
 use Rattle.files.proofs.allocation.taken.Statement.{statement}
 use Rattle.files.proofs.allocation.taken.Tie as tie
-use Rattle.files.proofs.allocation.taken.Reads as reads
-use Rattle.files.proofs.allocation.taken.Lts as lts
 
 returns : tie.Need-returns
 unfolding taken

@@ -2,21 +2,11 @@ use mathlib.Core.Path.{sym}
 use native.Mathlib.Omega.{arith}
 use lib.Seq.{length-take-le}
 use denote.Ref.{now}
-use Rattle.files.proofs.Adding.{adds-fab, adds-most}
-use Rattle.files.proofs.Strides.{steps-taking, steps-low, steps-fits, steps-done}
 use borrow.Author.Needs.{needs}
+use Rattle.files.proofs.appending.AppendNumbers.{adds-fab, adds-most}
+use Rattle.files.proofs.appending.AppendSteps.{steps-taking, steps-low, steps-fits, steps-done}
 use Rattle.files.proofs.appending.append.Statement.{statement}
 use Rattle.files.proofs.appending.append.Tie as tie
-use Rattle.files.proofs.appending.append.Reads as reads
-use Rattle.files.proofs.appending.append.Lts as lts
-use Rattle.files.proofs.appending.find_lowest.Reads as find-lowest-reads
-use Rattle.files.proofs.appending.longer_length.Reads as longer-length-reads
-use Rattle.files.proofs.appending.needed_sectors.Reads as needed-sectors-reads
-use Rattle.files.proofs.appending.take_sectors.Reads as take-sectors-reads
-use Rattle.files.proofs.appending.write_last.Reads as write-last-reads
-use Rattle.files.proofs.slot.record_length.Reads as record-length-reads
-use Rattle.files.proofs.slot.start_of.Reads as start-of-reads
-use Rattle.files.proofs.stream.stream_end.Reads as stream-end-reads
 
 needed-sectors-requires : tie.Need-needed-sectors-requires
 needed-sectors-requires c κs = search needs
@@ -32,7 +22,8 @@ record-length-requires c κs = search needs
 
 stream-end-requires : tie.Need-stream-end-requires
 stream-end-requires c κs =
-    let s = c .before .before .before .before .before .before .before .before .before .before .before in
+    let before = c .before .before .before .before .before .before .before .before .before .before .before in
+    let s = before in
     rw (c .before .before .before .start-of .ensures) (adds-fab _ (s .args .p) (s .args .k) _ (s .pre .adds))
 
 slice-aggregate-find-lowest : tie.Need-slice-aggregate-find-lowest
@@ -40,41 +31,81 @@ slice-aggregate-find-lowest c = search needs
 
 find-lowest-requires : tie.Need-find-lowest-requires
 find-lowest-requires c κs =
-    let s = c .before .before .before .before .before .before .before .before .before .before .before .before .before .before in
+    let before = c .before .before .before .before .before .before .before .before .before .before in
+    let far = before in
+    let s = far .before .before .before .before in
     let q = adds-most (now (s .args .img)) (s .args .p) (s .args .k) (now (s .args .r)) (s .pre .adds) in
-    (s .pre .adds .file .located, rw (c .before .before .before .before .before .before .before .before .before .before .needed-sectors .ensures) (s .pre .enough), omega (arith, c .before .before .before .before .before .before .before .before .before .before .needed-sectors .ensures))
+    (s .pre .adds .file .located, rw (far .needed-sectors .ensures) (s .pre .enough), omega (arith, far .needed-sectors .ensures))
 
 array-share-prefix-fresh : tie.Need-array-share-prefix-fresh
 array-share-prefix-fresh c =
-    let s = c .before .before .before .before .before .before .before .before .before .before .before .before .before .before .before .before .before in
-    omega (arith, c .before .before .before .before .before .before .before .before .before .before .before .before .before .needed-sectors .ensures, adds-most (now (s .args .img)) (s .args .p) (s .args .k) (now (s .args .r)) (s .pre .adds), c .before .before .find-lowest .kept .1 .1 .1 .0)
+    let before = c .before .before .before .before .before .before .before .before .before .before in
+    let far = before in
+    let s = far .before .before .before .before .before .before .before in
+    omega (
+      arith,
+      far .before .before .before .needed-sectors .ensures,
+      adds-most (now (s .args .img)) (s .args .p) (s .args .k) (now (s .args .r)) (s .pre .adds),
+      c .before .before .find-lowest .kept .1 .1 .1 .0,
+    )
 
 slice-aggregate-take-sectors : tie.Need-slice-aggregate-take-sectors
 slice-aggregate-take-sectors c =
-    let s = c .before .before .before .before .before .before .before .before .before .before .before .before .before .before .before .before .before .before in
-    sym (length-take-le _ _ (omega (arith, c .before .before .before .before .before .before .before .before .before .before .before .before .before .before .needed-sectors .ensures, adds-most (now (s .args .img)) (s .args .p) (s .args .k) (now (s .args .r)) (s .pre .adds), c .before .before .before .find-lowest .kept .1 .1 .1 .0)))
+    let before = c .before .before .before .before .before .before .before .before .before .before in
+    let far = before in
+    let s = far .before .before .before .before .before .before .before .before in
+    sym (length-take-le _ _ (omega (
+      arith,
+      far .before .before .before .before .needed-sectors .ensures,
+      adds-most (now (s .args .img)) (s .args .p) (s .args .k) (now (s .args .r)) (s .pre .adds),
+      c .before .before .before .find-lowest .kept .1 .1 .1 .0,
+    )))
 
 take-sectors-requires : tie.Need-take-sectors-requires
 take-sectors-requires c κs =
-    let s = c .before .before .before .before .before .before .before .before .before .before .before .before .before .before .before .before .before .before in
+    let before = c .before .before .before .before .before .before .before .before .before .before in
+    let record-length = c .before .before .before .before .before .before .before .before .record-length in
+    let stream-end = c .before .before .before .before .before .before .stream-end in
+    let far = before in
+    let s = far .before .before .before .before .before .before .before .before in
     let a = s .args in
-    let go = steps-taking (now (a .img)) (a .p) (a .k) (now (a .r)) (s .pre) _ _ _ _ _ _ _ (c .before .before .before .before .before .before .before .before .before .before .before .before .before .before .needed-sectors .ensures) (c .before .before .before .before .before .before .before .before .before .before .before .before .longer-length .ensures) (c .before .before .before .before .before .before .before .before .before .before .start-of .ensures) (c .before .before .before .before .before .before .before .before .record-length .ensures) (c .before .before .before .before .before .before .stream-end .ensures .0) (c .before .before .before .find-lowest .ensures) in
-    (go, steps-low (now (a .img)) (a .p) (a .k) (now (a .r)) (s .pre) _ _ _ _ _ _ _ (c .before .before .before .before .before .before .before .before .before .before .before .before .before .before .needed-sectors .ensures) (c .before .before .before .before .before .before .before .before .before .before .before .before .longer-length .ensures) (c .before .before .before .before .before .before .before .before .before .before .start-of .ensures) (c .before .before .before .before .before .before .before .before .record-length .ensures) (c .before .before .before .before .before .before .stream-end .ensures .0) (c .before .before .before .find-lowest .ensures))
+    let go = steps-taking (now (a .img)) (a .p) (a .k) (now (a .r)) (s .pre) _ _ _ _ _ _ _ (far .before .before .before .before .needed-sectors .ensures)
+    (far .before .before .longer-length .ensures) (far .start-of .ensures) (record-length .ensures)
+    (stream-end .ensures .0) (c .before .before .before .find-lowest .ensures) in (
+      go,
+      steps-low (now (a .img)) (a .p) (a .k) (now (a .r)) (s .pre) _ _ _ _ _ _ _ (far .before .before .before .before .needed-sectors .ensures)
+          (far .before .before .longer-length .ensures) (far .start-of .ensures) (record-length .ensures)
+          (stream-end .ensures .0) (c .before .before .before .find-lowest .ensures),
+    )
 
 write-last-requires : tie.Need-write-last-requires
 write-last-requires c κs =
-    let s = c .before .before .before .before .before .before .before .before .before .before .before .before .before .before .before .before .before .before .before .before .before .before in
+    let before = c .before .before .before .before .before .before .before .before .before .before in
+    let find-lowest = c .before .before .before .before .before .before .before .find-lowest in
+    let far = before in
+    let s = far .before .before .before .before .before .before .before .before .before .before .before .before in
     let a = s .args in
-    steps-fits (now (a .img)) (a .p) (a .k) (now (a .r)) (s .pre) _ _ _ _ _ _ _ (c .before .before .before .before .before .before .before .before .before .before .before .before .before .before .before .before .before .before .needed-sectors .ensures) (c .before .before .before .before .before .before .before .before .before .before .before .before .before .before .before .before .longer-length .ensures) (c .before .before .before .before .before .before .before .before .before .before .before .before .before .before .start-of .ensures) (c .before .before .before .before .before .before .before .before .before .before .before .before .record-length .ensures) (c .before .before .before .before .before .before .before .before .before .before .stream-end .ensures .0) (c .before .before .before .before .before .before .before .find-lowest .ensures) _ (c .before .before .before .take-sectors .ensures)
+    steps-fits (now (a .img)) (a .p) (a .k) (now (a .r)) (s .pre) _ _ _ _ _ _ _ (far .before .before .before .before .before .before .before .before .needed-sectors .ensures)
+    (far .before .before .before .before .before .before .longer-length .ensures) (far .before .before .before .before .start-of .ensures)
+    (far .before .before .record-length .ensures) (far .stream-end .ensures .0) (find-lowest .ensures) _
+    (c .before .before .before .take-sectors .ensures)
 
 same-length : tie.Need-same-length
 same-length c = search needs
 
 returns : tie.Need-returns
 returns c =
-    let s = c .before .before .before .before .before .before .before .before .before .before .before .before .before .before .before .before .before .before .before .before .before .before .before .before .before in
+    let before = c .before .before .before .before .before .before .before .before .before .before in
+    let take-sectors = c .before .before .before .before .before .before .take-sectors in
+    let far = before in
+    let s = far .before .before .before .before .before .before .before .before .before .before .before .before .before .before .before in
     let a = s .args in
-    steps-done (now (a .img)) (a .p) (a .k) (now (a .r)) (s .pre) _ _ _ _ _ _ _ (c .before .before .before .before .before .before .before .before .before .before .before .before .before .before .before .before .before .before .before .before .before .needed-sectors .ensures) (c .before .before .before .before .before .before .before .before .before .before .before .before .before .before .before .before .before .before .before .longer-length .ensures) (c .before .before .before .before .before .before .before .before .before .before .before .before .before .before .before .before .before .start-of .ensures) (c .before .before .before .before .before .before .before .before .before .before .before .before .before .before .before .record-length .ensures) (c .before .before .before .before .before .before .before .before .before .before .before .before .before .stream-end .ensures .0) (c .before .before .before .before .before .before .before .before .before .before .find-lowest .ensures) _ (c .before .before .before .before .before .before .take-sectors .ensures) _ (c .before .before .write-last .ensures)
+    steps-done (now (a .img)) (a .p) (a .k) (now (a .r)) (s .pre) _ _ _ _ _ _ _
+    (far .before .before .before .before .before .before .before .before .before .before .before .needed-sectors .ensures)
+    (far .before .before .before .before .before .before .before .before .before .longer-length .ensures)
+    (far .before .before .before .before .before .before .before .start-of .ensures) (far .before .before .before .before .before .record-length .ensures)
+    (far .before .before .before .stream-end .ensures .0) (far .find-lowest .ensures) _ (take-sectors .ensures) _
+    (c .before .before .write-last .ensures)
 
 pub append-spec : {M : Type 1} → statement M
 append-spec =

@@ -1,15 +1,12 @@
 use denote.Ref.{now}
-use Rattle.ownership.specs.Bytes.{inSectors}
+use borrow.Author.Needs.{needs}
+use Rattle.lists.specs.Parts.{inSectors}
+use Rattle.lists.proofs.LentParts.{lent-sector, wrote-by}
 use Rattle.ownership.specs.Blocks.{pairs, extendedBy, blockOf}
-use Rattle.ownership.proofs.Lent.{lent-sector, wrote-by}
 use Rattle.ownership.proofs.AccessBlocks.{length-blockOf, fours-pairs}
 use Rattle.ownership.proofs.Segments.{fours-extendedBy}
-use borrow.Author.Needs.{needs}
 use Rattle.files.proofs.appending.grow_in.Statement.{statement}
 use Rattle.files.proofs.appending.grow_in.Tie as tie
-use Rattle.files.proofs.appending.grow_in.Reads as reads
-use Rattle.files.proofs.appending.grow_in.Lts as lts
-use Rattle.files.proofs.appending.grow.Reads as grow-reads
 
 mul-at : tie.Need-mul-at
 mul-at c = search needs
@@ -36,7 +33,8 @@ same-length c = search needs
 
 returns : tie.Need-returns
 returns c =
-    let s = c .before .before .before .before .before .before in
+    let before = c .before .before .before .before .before .before in
+    let s = before in
     let a = s .args in
     wrote-by (λ f. blockOf (extendedBy (pairs f) (now (a .ss))) (inSectors (a .e)) (a .e)) (a .s) (now (a .img)) _ (c .before .before .grow .ensures)
     (length-blockOf _ _ _ (fours-extendedBy _ (now (a .ss)) (fours-pairs _ (s .pre .1 .shaped))) (s .pre .1 .room))

@@ -1,22 +1,16 @@
 use mathlib.Core.Path.{sym, _∙_}
 use Prim.Native.Nat.{_≤_}
 use native.Mathlib.Omega.{arith}
-use lib.ListN.{length-take}
 use lib.Seq.{length-take-le}
+use lib.ListN.{length-take}
 use denote.Ref.{now}
+use borrow.Author.Needs.{needs}
+use Rattle.numbers.specs.Numbers.{mostSectors}
 use Rattle.ownership.specs.Blocks.{block}
 use Rattle.files.specs.Changes.{newPairs}
-use Rattle.files.proofs.Adding.{adds-fab, adds-shaped, adds-most, adds-new}
-use borrow.Author.Needs.{needs}
+use Rattle.files.proofs.appending.AppendNumbers.{adds-most, adds-fab, adds-shaped, adds-new}
 use Rattle.files.proofs.appending.segments_after.Statement.{statement}
 use Rattle.files.proofs.appending.segments_after.Tie as tie
-use Rattle.files.proofs.appending.segments_after.Reads as reads
-use Rattle.files.proofs.appending.segments_after.Lts as lts
-use Rattle.files.proofs.appending.find_lowest.Reads as find-lowest-reads
-use Rattle.files.proofs.appending.needed_sectors.Reads as needed-sectors-reads
-use Rattle.files.proofs.slot.start_of.Reads as start-of-reads
-use Rattle.files.proofs.taking.segments_with.Reads as segments-with-reads
-use Rattle.ownership.proofs.bytes.sector_of.Reads as sector-of-reads
 
 needed-sectors-requires : tie.Need-needed-sectors-requires
 needed-sectors-requires c κs = search needs
@@ -35,31 +29,60 @@ start-of-requires c κs = search needs
 
 sector-of-requires : tie.Need-sector-of-requires
 sector-of-requires c κs =
-    let s = c .before .before .before .before .before .before .before in
+    let before = c .before .before .before .before .before .before .before in
+    let s = before in
     rw (c .start-of .ensures) (adds-fab _ (s .args .p) (s .args .k) _ (s .pre .0))
 
 array-share-prefix-fresh : tie.Need-array-share-prefix-fresh
 array-share-prefix-fresh c =
-    let s = c .before .before .before .before .before .before .before .before in
-    omega (arith, c .before .before .before .before .before .needed-sectors .ensures, adds-most (now (s .args .img)) (s .args .p) (s .args .k) (now (s .args .r)) (s .pre .0), c .before .before .before .find-lowest .kept .1 .1 .1 .0)
+    let before = c .before .before .before .before .before .before .before .before in
+    let needed-sectors = c .before .before .before .before .before .needed-sectors in
+    let s = before in
+    omega (
+      arith,
+      needed-sectors .ensures,
+      adds-most (now (s .args .img)) (s .args .p) (s .args .k) (now (s .args .r)) (s .pre .0),
+      c .before .before .before .find-lowest .kept .1 .1 .1 .0,
+    )
 
 slice-aggregate-segments-with : tie.Need-slice-aggregate-segments-with
 slice-aggregate-segments-with c =
-    let s = c .before .before .before .before .before .before .before .before .before in
-    sym (length-take-le _ _ (omega (arith, c .before .before .before .before .before .before .needed-sectors .ensures, adds-most (now (s .args .img)) (s .args .p) (s .args .k) (now (s .args .r)) (s .pre .0), c .before .before .before .before .find-lowest .kept .1 .1 .1 .0)))
+    let before = c .before .before .before .before .before .before .before .before .before in
+    let needed-sectors = c .before .before .before .before .before .before .needed-sectors in
+    let find-lowest = c .before .before .before .before .find-lowest in
+    let s = before in
+    sym (length-take-le _ _ (omega (
+      arith,
+      needed-sectors .ensures,
+      adds-most (now (s .args .img)) (s .args .p) (s .args .k) (now (s .args .r)) (s .pre .0),
+      find-lowest .kept .1 .1 .1 .0,
+    )))
 
 segments-with-requires : tie.Need-segments-with-requires
 segments-with-requires c κs =
-    let s = c .before .before .before .before .before .before .before .before .before in
-    let q : c .before .before .before .before .before .before .needed-sectors .result ≤ 2048 = omega (arith, c .before .before .before .before .before .before .needed-sectors .ensures, adds-most (now (s .args .img)) (s .args .p) (s .args .k) (now (s .args .r)) (s .pre .0)) in
-    (rw (c .before .sector-of .ensures, c .before .before .start-of .ensures) (adds-shaped _ (s .args .p) (s .args .k) _ (s .pre .0)), omega (arith, length-take (c .before .before .before .before .before .before .needed-sectors .result) (c .before .before .before .before .find-lowest .last .1 .1 .1 .0)))
+    let before = c .before .before .before .before .before .before .before .before .before in
+    let needed-sectors = c .before .before .before .before .before .before .needed-sectors in
+    let find-lowest = c .before .before .before .before .find-lowest in
+    let s = before in
+    let q : needed-sectors .result ≤ mostSectors = omega (
+      arith,
+      needed-sectors .ensures,
+      adds-most (now (s .args .img)) (s .args .p) (s .args .k) (now (s .args .r)) (s .pre .0),
+    ) in (
+      rw (c .before .sector-of .ensures, c .before .before .start-of .ensures) (adds-shaped _ (s .args .p) (s .args .k) _ (s .pre .0)),
+      omega (arith, length-take (needed-sectors .result) (find-lowest .last .1 .1 .1 .0)),
+    )
 
 returns : tie.Need-returns
 unfolding newPairs block
 returns c =
-    let s = c .before .before .before .before .before .before .before .before .before .before in
+    let before = c .before .before .before .before .before .before .before .before .before .before in
+    let needed-sectors = c .before .before .before .before .before .before .before .needed-sectors in
+    let find-lowest = c .before .before .before .before .before .find-lowest in
+    let s = before in
     let a = s .args in
-    let m = adds-new (now (a .img)) (a .p) (a .k) (now (a .r)) (s .pre .0) _ _ _ (c .before .before .before .before .before .before .before .needed-sectors .ensures) (s .pre .1) (c .before .before .before .before .before .find-lowest .ensures) in
+    let m = adds-new (now (a .img)) (a .p) (a .k) (now (a .r)) (s .pre .0) _ _ _ (needed-sectors .ensures)
+    (s .pre .1) (find-lowest .ensures) in
     c .segments-with .ensures ∙ rw (m, c .before .before .sector-of .ensures, c .before .before .before .start-of .ensures)
 
 pub segments-after-spec : {M : Type 1} → statement M

@@ -1,6 +1,6 @@
 use mathlib.Core.Path.{sym, _∙_}
-use Rattle.files.proofs.Verdicts.{sound-places, no-places, checked-no, checked-yes}
 use borrow.Author.Needs.{needs}
+use Rattle.files.proofs.SoundVerdict.{no-places, checked-no, sound-places, checked-yes}
 use Rattle.files.proofs.check.check.Statement.{statement}
 use Rattle.files.proofs.check.check.Tie as tie
 
@@ -20,7 +20,9 @@ free-sectors-requires : tie.Need-free-sectors-requires
 free-sectors-requires c κs = sound-places _ _ (sym (c .before .before .before .locate-sound .ensures) ∙ c .before .found .given .1) .1
 
 returns-2 : tie.Need-returns-2
-returns-2 c = checked-yes _ _ (c .free-sectors .ensures) (sound-places _ _ (sym (c .before .before .before .before .locate-sound .ensures) ∙ c .before .before .found .given .1) .0)
+returns-2 c =
+    let locate-sound = c .before .before .before .before .locate-sound in
+    checked-yes _ _ (c .free-sectors .ensures) (sound-places _ _ (sym (locate-sound .ensures) ∙ c .before .before .found .given .1) .0)
 
 pub check-spec : {M : Type 1} → statement M
 check-spec =

@@ -1,8 +1,8 @@
 use mathlib.Core.Path.{sym, ap, _∙_}
-use Rattle.ownership.specs.Bytes.{_and_}
-use Rattle.files.specs.Spots.{wholeOf}
-use Rattle.files.proofs.Opening.{whole-counted}
 use borrow.Author.Needs.{needs}
+use Rattle.lists.specs.Lists.{_and_}
+use Rattle.records.specs.Code.Spots.{wholeOf}
+use Rattle.files.proofs.OpenBlock.{whole-counted}
 use Rattle.files.proofs.check.content_sound.Statement.{statement}
 use Rattle.files.proofs.check.content_sound.Tie as tie
 
@@ -17,7 +17,8 @@ is-whole-requires c κs = search needs
 
 returns : tie.Need-returns
 unfolding _and_
-returns c = c .is-whole .ensures ∙ ap wholeOf (c .before .walk .ensures) ∙ whole-counted _ _ ∙ rw (sym (c .before .before .before .tail-zero .ensures) ∙ c .before .before .if1 .taken)
+returns c =
+    c .is-whole .ensures ∙ ap wholeOf (c .before .walk .ensures) ∙ whole-counted _ _ ∙ rw (sym (c .before .before .before .tail-zero .ensures) ∙ c .before .before .if1 .taken)
 
 returns-2 : tie.Need-returns-2
 unfolding _and_

@@ -1,19 +1,19 @@
 -- The loop's invariant: the entries from k on are sound if all are.
-use mathlib.Core.Path.{_≡_, refl, sym, ap, _∙_}
 use mathlib.Core.Bool.{Bool}
 use mathlib.Core.List.{List, []}
-use Prim.Native.Nat.{ℕ, _-_, _≤_, _<_}
+use mathlib.Core.Path.{_≡_, refl, ap, _∙_, sym}
+use Prim.Native.Nat.{ℕ, _≤_, _-_, _<_}
 use native.Mathlib.Omega.{arith}
-use lib.ListN.{length, drop}
-use borrow.Author.Tests.{not-true, not-false}
+use lib.ListN.{drop, length}
 use denote.Ref.{now}
-use Rattle.ownership.specs.Bytes.{_and_, all}
-use Rattle.ownership.specs.Directory.{entries, entryAt}
-use Rattle.ownership.proofs.Slots.{length-entries, length-entry}
-use Rattle.ownership.proofs.Walks.{all-more, all-stop, all-end}
-use Rattle.files.specs.Files.{tailSound, recordsSound, sound4}
-use Rattle.files.proofs.Opening.{opens-at}
 use borrow.Author.Needs.{needs}
+use borrow.Author.Tests.{not-true, not-false}
+use Rattle.lists.specs.Lists.{_and_, all}
+use Rattle.lists.proofs.Walks.{all-stop, all-more, all-end}
+use Rattle.volume.specs.Directory.{entries, entryAt}
+use Rattle.volume.proofs.Slots.{length-entry, length-entries}
+use Rattle.files.specs.Files.{tailSound, recordsSound, sound4}
+use Rattle.files.proofs.OpenBlock.{opens-at}
 use Rattle.files.proofs.check.contents_sound.Statement.{statement}
 use Rattle.files.proofs.check.contents_sound.Tie as tie
 
@@ -37,7 +37,8 @@ entry-of-requires c κs = search needs
 
 file-sound-requires : tie.Need-file-sound-requires Inv-loop μ-loop
 file-sound-requires c κs =
-    let s = c .before .before .before .before .before in
+    let before = c .before .before .before .before .before in
+    let s = before in
     let img = now (s .args .img) in
     let k = c .before .before .loop .k in
     let q = c .entry-of .ensures in
@@ -46,8 +47,10 @@ file-sound-requires c κs =
 returns : tie.Need-returns Inv-loop μ-loop
 unfolding entryAt sound4
 returns c =
-    let s = c .before .before .before .before .before .before .before in
-    let l = c .before .before .before .before .loop in
+    let before = c .before .before .before .before .before .before .before in
+    let loop = c .before .before .before .before .loop in
+    let s = before in
+    let l = loop in
     let img = now (s .args .img) in
     let n : l .k < length (entries img) = omega (arith, length-entries img, s .pre .0 .is-dirs) in
     let q = ap (good img) (c .before .before .entry-of .ensures) in
@@ -62,8 +65,10 @@ loop-less c = omega arith
 loop-again : tie.Need-loop-again Inv-loop μ-loop
 unfolding entryAt
 loop-again c =
-    let s = c .before .before .before .before .before .before .before in
-    let l = c .before .before .before .before .loop in
+    let before = c .before .before .before .before .before .before .before in
+    let loop = c .before .before .before .before .loop in
+    let s = before in
+    let l = loop in
     let img = now (s .args .img) in
     let n : l .k < length (entries img) = omega (arith, length-entries img, s .pre .0 .is-dirs) in
     let q = ap (good img) (c .before .before .entry-of .ensures) in

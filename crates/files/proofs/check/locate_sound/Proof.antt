@@ -1,7 +1,7 @@
 use mathlib.Core.Path.{sym, _∙_}
-use Rattle.ownership.proofs.Verdicts.{sound-judged}
-use Rattle.files.proofs.Verdicts.{owners-once, judged-nowhere, judged-bad, judged-good}
 use borrow.Author.Needs.{needs}
+use Rattle.ownership.proofs.Verdicts.{sound-judged}
+use Rattle.files.proofs.SoundVerdict.{judged-nowhere, owners-once, judged-good, judged-bad}
 use Rattle.files.proofs.check.locate_sound.Statement.{statement}
 use Rattle.files.proofs.check.locate_sound.Tie as tie
 
@@ -23,10 +23,16 @@ contents-sound-requires c κs =
     (h .located, h .point3, owners-once _ _ h)
 
 returns-2 : tie.Need-returns-2
-returns-2 c = judged-good _ _ (sound-judged _ _ (sym (c .before .before .before .before .before .judge .ensures) ∙ c .before .before .before .verdict .given .1)) (sym (c .before .contents-sound .ensures) ∙ c .if1 .taken)
+returns-2 c =
+    let judge = c .before .before .before .before .before .judge in
+    judged-good _ _ (sound-judged _ _ (sym (judge .ensures) ∙ c .before .before .before .verdict .given .1))
+    (sym (c .before .contents-sound .ensures) ∙ c .if1 .taken)
 
 returns-3 : tie.Need-returns-3
-returns-3 c = judged-bad _ _ (sound-judged _ _ (sym (c .before .before .before .before .before .judge .ensures) ∙ c .before .before .before .verdict .given .1)) (sym (c .before .contents-sound .ensures) ∙ c .if1 .left)
+returns-3 c =
+    let judge = c .before .before .before .before .before .judge in
+    judged-bad _ _ (sound-judged _ _ (sym (judge .ensures) ∙ c .before .before .before .verdict .given .1))
+    (sym (c .before .contents-sound .ensures) ∙ c .if1 .left)
 
 pub locate-sound-spec : {M : Type 1} → statement M
 locate-sound-spec =

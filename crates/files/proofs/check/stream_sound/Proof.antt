@@ -2,15 +2,17 @@ use mathlib.Core.Path.{sym, _∙_}
 use mathlib.Core.List.{List}
 use Prim.Native.Nat.{ℕ}
 use native.Mathlib.Omega.{arith}
-use lib.ListN.{drop}
 use lib.Seq.{length-take-le}
+use lib.ListN.{drop}
 use denote.Ref.{now}
-use Rattle.ownership.specs.Bytes.{_and_, zeros}
-use Rattle.files.specs.Records.{wholeRecords}
-use Rattle.files.specs.Files.{laidOut}
-use Rattle.files.specs.Streams.{streamIn, storedAt, streamAt}
-use Rattle.files.proofs.Opening.{loaded-few, loaded, loaded-as}
 use borrow.Author.Needs.{needs}
+use Rattle.lists.specs.Lists.{_and_}
+use Rattle.lists.specs.Parts.{zeros}
+use Rattle.records.specs.Records.{wholeRecords}
+use Rattle.records.specs.Streams.{laidOut}
+use Rattle.records.specs.Code.Mapped.{streamIn}
+use Rattle.files.specs.Code.Opens.{storedAt, streamAt}
+use Rattle.files.proofs.OpenBlock.{loaded-few, loaded, loaded-as}
 use Rattle.files.proofs.check.stream_sound.Statement.{statement}
 use Rattle.files.proofs.check.stream_sound.Tie as tie
 
@@ -24,19 +26,40 @@ stream-end-requires : tie.Need-stream-end-requires
 stream-end-requires c κs = search needs
 
 array-share-prefix-map : tie.Need-array-share-prefix-map
-array-share-prefix-map c = omega (arith, loaded-few _ _ (c .before .before .before .before .before .pre) _ _ _ (c .before .before .load-map .ensures .0) (c .before .before .load-map .ensures .1), c .before .before .load-map .kept .1 .1 .0)
+array-share-prefix-map c =
+    let pre = c .before .before .before .before .before .pre in
+    omega (
+      arith,
+      loaded-few _ _ (pre) _ _ _ (c .before .before .load-map .ensures .0) (c .before .before .load-map .ensures .1),
+      c .before .before .load-map .kept .1 .1 .0,
+    )
 
 slice-aggregate-content-sound : tie.Need-slice-aggregate-content-sound
-slice-aggregate-content-sound c = sym (length-take-le _ _ (omega (arith, loaded-few _ _ (c .before .before .before .before .before .before .pre) _ _ _ (c .before .before .before .load-map .ensures .0) (c .before .before .before .load-map .ensures .1), c .before .before .before .load-map .kept .1 .1 .0)))
+slice-aggregate-content-sound c =
+    let pre = c .before .before .before .before .before .before .pre in
+    sym (length-take-le _ _ (omega (
+      arith,
+      loaded-few _ _ (pre) _ _ _ (c .before .before .before .load-map .ensures .0)
+          (c .before .before .before .load-map .ensures .1),
+      c .before .before .before .load-map .kept .1 .1 .0,
+    )))
 
 content-sound-requires : tie.Need-content-sound-requires
-content-sound-requires c κs = loaded _ _ (c .before .before .before .before .before .before .pre) _ _ _ (c .before .before .before .load-map .ensures .0) (c .before .before .before .load-map .ensures .1) _ (c .before .stream-end .ensures .0)
+content-sound-requires c κs =
+    let pre = c .before .before .before .before .before .before .pre in
+    loaded _ _ (pre) _ _ _ (c .before .before .before .load-map .ensures .0)
+    (c .before .before .before .load-map .ensures .1) _ (c .before .stream-end .ensures .0)
 
 returns : tie.Need-returns
 unfolding storedAt streamAt
 returns c =
-    let a = c .before .before .before .before .before .before .before .args in
-    c .content-sound .ensures ∙ loaded-as _ _ (c .before .before .before .before .before .before .before .pre) _ _ _ (c .before .before .before .before .load-map .ensures .0) (c .before .before .before .before .load-map .ensures .1) _ (c .before .before .stream-end .ensures .0) (λ (ss : List ℕ) (e : ℕ). zeros (drop e (laidOut (now (a .img)) ss)) and wholeRecords (a .l) (streamIn (now (a .img)) ss e))
+    let args = c .before .before .before .before .before .before .before .args in
+    let pre = c .before .before .before .before .before .before .before .pre in
+    let load-map = c .before .before .before .before .load-map in
+    let a = args in
+    c .content-sound .ensures ∙ loaded-as _ _ (pre) _ _ _ (load-map .ensures .0)
+    (load-map .ensures .1) _ (c .before .before .stream-end .ensures .0)
+    (λ (ss : List ℕ) (e : ℕ). zeros (drop e (laidOut (now (a .img)) ss)) and wholeRecords (a .l) (streamIn (now (a .img)) ss e))
 
 pub stream-sound-spec : {M : Type 1} → statement M
 stream-sound-spec =

@@ -1,16 +1,16 @@
 -- The loop's invariant: the bytes from p on are zero if those from e on are.
 use mathlib.Core.Path.{_≡_, sym, _∙_}
-use Prim.Native.Nat.{_-_, _≤_}
+use Prim.Native.Nat.{_≤_, _-_}
 use native.Mathlib.Omega.{arith}
 use lib.ListN.{drop}
 use lib.Dec.{eqb}
-use borrow.Author.Tests.{eq-eqb, ne-eqb}
 use denote.Ref.{now}
-use Rattle.ownership.specs.Bytes.{zeros}
-use Rattle.ownership.proofs.Walks.{all-more, all-stop, all-end}
-use Rattle.files.specs.Files.{laidOut}
-use Rattle.files.proofs.Streams.{length-laidOut}
 use borrow.Author.Needs.{needs}
+use borrow.Author.Tests.{ne-eqb, eq-eqb}
+use Rattle.lists.specs.Parts.{zeros}
+use Rattle.lists.proofs.Walks.{all-stop, all-more, all-end}
+use Rattle.records.specs.Streams.{laidOut}
+use Rattle.records.proofs.StreamBytes.{length-laidOut}
 use Rattle.files.proofs.check.tail_zero.Statement.{statement}
 use Rattle.files.proofs.check.tail_zero.Tie as tie
 
@@ -31,10 +31,12 @@ stream-byte-requires c κs = search needs
 
 returns : tie.Need-returns Inv-loop μ-loop
 returns c =
-    let s = c .before .before .before .before .before .before in
+    let before = c .before .before .before .before .before .before in
+    let s = before in
     let l = c .before .before .before .loop in
     let z = length-laidOut (now (s .args .img)) (now (s .args .map)) (s .pre .0) in
-    sym (sym (l .inv .1) ∙ all-stop (λ x. eqb x 0) (laidOut (now (s .args .img)) (now (s .args .map))) 0 (l .p) (omega arith) (ne-eqb _ 0 (λ q. c .if1 .taken (c .before .stream-byte .ensures .0 ∙ q))))
+    sym (sym (l .inv .1) ∙ all-stop (λ x. eqb x 0) (laidOut (now (s .args .img)) (now (s .args .map))) 0 (l .p) (omega arith)
+    (ne-eqb _ 0 (λ q. c .if1 .taken (c .before .stream-byte .ensures .0 ∙ q))))
 
 add-p : tie.Need-add-p Inv-loop μ-loop
 add-p c = search needs
@@ -44,16 +46,21 @@ loop-less c = search needs
 
 loop-again : tie.Need-loop-again Inv-loop μ-loop
 loop-again c =
-    let s = c .before .before .before .before .before .before in
+    let before = c .before .before .before .before .before .before in
+    let s = before in
     let l = c .before .before .before .loop in
-    let z = length-laidOut (now (s .args .img)) (now (s .args .map)) (s .pre .0) in
-    (omega arith, sym (all-more (λ x. eqb x 0) (laidOut (now (s .args .img)) (now (s .args .map))) 0 (l .p) (omega arith) (eq-eqb _ 0 (sym (c .before .stream-byte .ensures .0) ∙ c .if1 .left))) ∙ l .inv .1)
+    let z = length-laidOut (now (s .args .img)) (now (s .args .map)) (s .pre .0) in (
+      omega arith,
+      sym (all-more (λ x. eqb x 0) (laidOut (now (s .args .img)) (now (s .args .map))) 0 (l .p) (omega arith)
+          (eq-eqb _ 0 (sym (c .before .stream-byte .ensures .0) ∙ c .if1 .left))) ∙ l .inv .1,
+    )
 
 returns-2 : tie.Need-returns-2 Inv-loop μ-loop
 returns-2 c =
     let s = c .before .before .before .before in
     let l = c .before .loop in
-    sym (sym (l .inv .1) ∙ all-end (λ x. eqb x 0) (laidOut (now (s .args .img)) (now (s .args .map))) (l .p) (omega (arith, length-laidOut (now (s .args .img)) (now (s .args .map)) (s .pre .0))))
+    sym (sym (l .inv .1) ∙ all-end (λ x. eqb x 0) (laidOut (now (s .args .img)) (now (s .args .map))) (l .p)
+    (omega (arith, length-laidOut (now (s .args .img)) (now (s .args .map)) (s .pre .0))))
 
 pub tail-zero-spec : {M : Type 1} → statement M
 tail-zero-spec =

@@ -1,14 +1,15 @@
-use mathlib.Core.Path.{sym, ap, _∙_}
+use mathlib.Core.Path.{sym, _∙_, ap}
 use mathlib.Core.List.{List}
 use Prim.Native.Nat.{ℕ}
 use native.Mathlib.Omega.{arith}
 use lib.Seq.{length-take-le}
 use denote.Ref.{now}
-use Rattle.files.specs.Streams.{streamIn, streamAt}
-use Rattle.files.specs.Spots.{countedOf, countOf}
-use Rattle.files.proofs.Opening.{length-streamAt, loaded-few, loaded, loaded-as}
-use Rattle.files.proofs.Used.{count-counted, count-of-length}
 use borrow.Author.Needs.{needs}
+use Rattle.records.specs.Code.Mapped.{streamIn}
+use Rattle.records.specs.Code.Spots.{countedOf, countOf}
+use Rattle.files.specs.Code.Opens.{streamAt}
+use Rattle.files.proofs.OpenBlock.{length-streamAt, loaded-few, loaded, loaded-as}
+use Rattle.files.proofs.SlotInUse.{count-of-length, count-counted}
 use Rattle.files.proofs.extent.count_stream.Statement.{statement}
 use Rattle.files.proofs.extent.count_stream.Tie as tie
 
@@ -30,13 +31,30 @@ load-map-requires : tie.Need-load-map-requires
 load-map-requires c κs = search needs
 
 array-share-prefix-map : tie.Need-array-share-prefix-map
-array-share-prefix-map c = omega (arith, loaded-few _ _ (c .before .before .before .before .before .before .pre .0) _ _ _ (c .before .load-map .ensures .0) (c .before .load-map .ensures .1), c .before .load-map .kept .1 .1 .0)
+array-share-prefix-map c =
+    let pre = c .before .before .before .before .before .before .pre in
+    omega (
+      arith,
+      loaded-few _ _ (pre .0) _ _ _ (c .before .load-map .ensures .0) (c .before .load-map .ensures .1),
+      c .before .load-map .kept .1 .1 .0,
+    )
 
 slice-aggregate-walk : tie.Need-slice-aggregate-walk
-slice-aggregate-walk c = sym (length-take-le _ _ (omega (arith, loaded-few _ _ (c .before .before .before .before .before .before .before .pre .0) _ _ _ (c .before .before .load-map .ensures .0) (c .before .before .load-map .ensures .1), c .before .before .load-map .kept .1 .1 .0)))
+slice-aggregate-walk c =
+    let pre = c .before .before .before .before .before .before .before .pre in
+    sym (length-take-le _ _ (omega (
+      arith,
+      loaded-few _ _ (pre .0) _ _ _ (c .before .before .load-map .ensures .0)
+          (c .before .before .load-map .ensures .1),
+      c .before .before .load-map .kept .1 .1 .0,
+    )))
 
 walk-requires : tie.Need-walk-requires
-walk-requires c κs = loaded _ _ (c .before .before .before .before .before .before .before .pre .0) _ _ _ (c .before .before .load-map .ensures .0) (c .before .before .load-map .ensures .1) _ (c .before .before .before .before .before .stream-end .ensures .0)
+walk-requires c κs =
+    let pre = c .before .before .before .before .before .before .before .pre in
+    let stream-end = c .before .before .before .before .before .stream-end in
+    loaded _ _ (pre .0) _ _ _ (c .before .before .load-map .ensures .0) (c .before .before .load-map .ensures .1) _
+    (stream-end .ensures .0)
 
 count-of-requires : tie.Need-count-of-requires
 count-of-requires c κs = search needs
@@ -44,9 +62,15 @@ count-of-requires c κs = search needs
 returns-2 : tie.Need-returns-2
 unfolding streamAt
 returns-2 c =
-    let s = c .before .before .before .before .before .before .before .before .before in
+    let before = c .before .before .before .before .before .before .before .before .before in
+    let stream-end = c .before .before .before .before .before .before .before .stream-end in
+    let load-map = c .before .before .before .before .load-map in
+    let s = before in
     let a = s .args in
-    c .count-of .ensures ∙ ap countOf (c .before .walk .ensures ∙ loaded-as _ _ (s .pre .0) _ _ _ (c .before .before .before .before .load-map .ensures .0) (c .before .before .before .before .load-map .ensures .1) _ (c .before .before .before .before .before .before .before .stream-end .ensures .0) (λ (ss : List ℕ) (e : ℕ). countedOf (a .l) (streamIn (now (a .img)) ss e))) ∙ count-counted (a .l) _ (s .pre .1)
+    c .count-of .ensures ∙ ap countOf (c .before .walk .ensures
+    ∙ loaded-as _ _ (s .pre .0) _ _ _ (load-map .ensures .0) (load-map .ensures .1) _
+    (stream-end .ensures .0) (λ (ss : List ℕ) (e : ℕ). countedOf (a .l) (streamIn (now (a .img)) ss e)))
+    ∙ count-counted (a .l) _ (s .pre .1)
 
 pub count-stream-spec : {M : Type 1} → statement M
 count-stream-spec =

@@ -1,6 +1,6 @@
 use mathlib.Core.Path.{_∙_}
-use Rattle.files.proofs.Used.{used-opens, used-whole, used-small, used-stream}
 use borrow.Author.Needs.{needs}
+use Rattle.files.proofs.SlotInUse.{used-opens, used-whole, used-small, used-stream}
 use Rattle.files.proofs.extent.record_of.Statement.{statement}
 use Rattle.files.proofs.extent.record_of.Tie as tie
 
@@ -13,7 +13,8 @@ record-length-requires c κs = search needs
 find-stream-requires : tie.Need-find-stream-requires
 find-stream-requires c κs =
     let s = c .before .before .before in
-    rw (c .before .start-of .ensures, c .record-length .ensures) (used-opens _ _ _ (s .pre .0) (s .pre .1), used-small _ _ _ (s .pre .0) (s .pre .1), used-whole _ _ _ (s .pre .0) (s .pre .1))
+    rw (c .before .start-of .ensures, c .record-length .ensures)
+    (used-opens _ _ _ (s .pre .0) (s .pre .1), used-small _ _ _ (s .pre .0) (s .pre .1), used-whole _ _ _ (s .pre .0) (s .pre .1))
 
 returns : tie.Need-returns
 returns c =

@@ -1,11 +1,11 @@
 use mathlib.Core.Path.{sym, _∙_}
 use native.Mathlib.Omega.{arith}
 use denote.Ref.{now}
-use Rattle.ownership.specs.Blocks.{block}
-use Rattle.files.proofs.Streams.{known}
-use Rattle.files.proofs.Used.{used-opens}
-use Rattle.files.proofs.Replacing.{used-distinct, spot-past, spot-there, spot-long, spot-fits, put-updated, replaced-past, replaced-other, replaced-done}
 use borrow.Author.Needs.{needs}
+use Rattle.records.proofs.StreamBytes.{known}
+use Rattle.ownership.specs.Blocks.{block}
+use Rattle.files.proofs.UpdateIs.{spot-past, replaced-past, spot-there, spot-long, replaced-other, used-distinct, spot-fits, put-updated, replaced-done}
+use Rattle.files.proofs.SlotInUse.{used-opens}
 use Rattle.files.proofs.replace.update_record.Statement.{statement}
 use Rattle.files.proofs.replace.update_record.Tie as tie
 
@@ -23,7 +23,8 @@ same-length c = search needs
 
 returns : tie.Need-returns
 returns c =
-    let s = c .before .before .before .before .before .before in
+    let before = c .before .before .before .before .before .before in
+    let s = before in
     replaced-past _ _ _ _ _ _ (spot-past _ _ _ (s .pre .0) (s .pre .1) _ (sym (c .before .before .record-of .ensures) ∙ c .enum-told .given .1))
 
 same-length-2 : tie.Need-same-length-2
@@ -31,9 +32,12 @@ same-length-2 c = search needs
 
 returns-2 : tie.Need-returns-2
 returns-2 c =
-    let s = c .before .before .before .before .before .before .before .before in
-    let q = sym (c .before .before .before .before .record-of .ensures) ∙ c .before .before .spot .given .1 in
-    let b = known (now (s .args .img)) (c .before .before .before .before .before .before .before .slice-known .given) in
+    let before = c .before .before .before .before .before .before .before .before in
+    let slice-known = c .before .before .before .before .before .before .before .slice-known in
+    let record-of = c .before .before .before .before .record-of in
+    let s = before in
+    let q = sym (record-of .ensures) ∙ c .before .before .spot .given .1 in
+    let b = known (now (s .args .img)) (slice-known .given) in
     replaced-other _ _ _ _ _ _ (spot-there _ _ _ (s .pre .0) (s .pre .1) b _ _ _ q) _ (spot-long _ _ _ (s .pre .0) (s .pre .1) b _ _ _ q) (c .if1 .taken)
 
 start-of-requires : tie.Need-start-of-requires
@@ -42,22 +46,38 @@ start-of-requires c κs = search needs
 write-at-requires : tie.Need-write-at-requires
 unfolding block
 write-at-requires c κs =
-    let s = c .before .before .before .before .before .before .before .before .before .before .before in
-    let q = sym (c .before .before .before .before .before .before .before .record-of .ensures) ∙ c .before .before .before .before .before .spot .given .1 in
-    let b = known (now (s .args .img)) (c .before .before .before .before .before .before .before .before .before .before .slice-known .given) in
+    let before = c .before .before .before .before .before .before .before .before .before .before .before in
+    let slice-known = c .before .before .before .before .before .before .before .before .before .before .slice-known in
+    let record-of = c .before .before .before .before .before .before .before .record-of in
+    let spot = c .before .before .before .before .before .spot in
+    let s = before in
+    let q = sym (record-of .ensures) ∙ spot .given .1 in
+    let b = known (now (s .args .img)) (slice-known .given) in
     let f = spot-fits _ _ _ (s .pre .0) (s .pre .1) b _ _ _ q in
-    rw (c .before .start-of .ensures) (used-opens _ _ _ (s .pre .0) (s .pre .1), used-distinct _ _ _ (s .pre .0) (s .pre .1), omega (arith, f, c .before .before .before .if1 .left))
+    rw (c .before .start-of .ensures) (
+      used-opens _ _ _ (s .pre .0) (s .pre .1),
+      used-distinct _ _ _ (s .pre .0) (s .pre .1),
+      omega (arith, f, c .before .before .before .if1 .left),
+    )
 
 same-length-3 : tie.Need-same-length-3
 same-length-3 c = search needs
 
 returns-3 : tie.Need-returns-3
 returns-3 c =
-    let s = c .before .before .before .before .before .before .before .before .before .before .before .before .before .before in
-    let q = sym (c .before .before .before .before .before .before .before .before .before .before .record-of .ensures) ∙ c .before .before .before .before .before .before .before .before .spot .given .1 in
-    let b = known (now (s .args .img)) (c .before .before .before .before .before .before .before .before .before .before .before .before .before .slice-known .given) in
-    let n = c .before .before .before .before .before .before .if1 .left in
-    let x = rw (c .before .before .before .before .start-of .ensures, put-updated _ _ _ (s .pre .0) (s .pre .1) b _ _ _ q (now (s .args .src)) n) at (c .before .before .write-at .ensures) in
+    let before = c .before .before .before .before .before .before .before .before .before .before .before .before .before .before in
+    let slice-known = c .before .before .before .before .before .before .before .before .before .before .before .before .before .slice-known in
+    let record-of = c .before .before .before .before .before .before .before .before .before .before .record-of in
+    let spot = c .before .before .before .before .before .before .before .before .spot in
+    let if1 = c .before .before .before .before .before .before .if1 in
+    let start-of = c .before .before .before .before .start-of in
+    let s = before in
+    let q = sym (record-of .ensures)
+    ∙ spot .given .1 in
+    let b = known (now (s .args .img)) (slice-known .given) in
+    let n = if1 .left in
+    let x = rw (start-of .ensures, put-updated _ _ _ (s .pre .0) (s .pre .1) b _ _ _ q (now (s .args .src)) n) at
+    (c .before .before .write-at .ensures) in
     let g = replaced-done _ _ _ _ (now (s .args .img)) _ (spot-there _ _ _ (s .pre .0) (s .pre .1) b _ _ _ q) _ (spot-long _ _ _ (s .pre .0) (s .pre .1) b _ _ _ q) n in
     (g .0, x ∙ g .1)
 

@@ -1,7 +1,7 @@
 use mathlib.Core.Path.{ap, _∙_}
 use lib.ListN.{length}
-use Rattle.ownership.proofs.Slots.{length-entry}
 use borrow.Author.Needs.{needs}
+use Rattle.volume.proofs.Slots.{length-entry}
 use Rattle.files.proofs.slot.is_contiguous.Statement.{statement}
 use Rattle.files.proofs.slot.is_contiguous.Tie as tie
 

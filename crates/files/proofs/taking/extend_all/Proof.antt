@@ -1,19 +1,15 @@
 use mathlib.Core.Path.{_≡_, refl, _∙_}
--- The loop's invariant: the block of the pairs that the first k sectors make.
-use mathlib.Core.Path.{_≡_, _∙_}
 use Prim.Native.Nat.{_≤_, _-_}
 use native.Mathlib.Omega.{arith}
 use lib.ListN.{length, take}
 use denote.Ref.{now}
-use Rattle.ownership.specs.Blocks.{total, streamLength, pairs, extendedBy, blockOf}
-use Rattle.files.proofs.Extensions.{grown-none, grown-extends, grown-more, grown-done}
 use borrow.Author.Needs.{needs}
+use Rattle.ownership.specs.Blocks.{total, streamLength, pairs, extendedBy, blockOf}
+use Rattle.files.proofs.taking.ExtendedBy.{grown-none, grown-extends, grown-more, grown-done}
 use Rattle.files.proofs.taking.extend_all.Statement.{statement}
 use Rattle.files.proofs.taking.extend_all.Tie as tie
-use Rattle.files.proofs.taking.extend_all.Reads as reads
-use Rattle.files.proofs.taking.extend_all.Lts as lts
-use Rattle.files.proofs.stream.wide16.Reads as wide16-reads
-use Rattle.ownership.proofs.blocks.extend.Reads as extend-reads
+
+-- The loop's invariant: the block of the pairs that the first k sectors make.
 
 abbrev Inv-loop : tie.InvT-loop
 Inv-loop f₀ ss k₀ f k = (k ≤ length ss) × (f ≡ blockOf (extendedBy (pairs f₀) (take k ss)) (total f₀) (streamLength f₀)) × (length f ≡ length f₀)
@@ -37,8 +33,10 @@ wide16-requires c κs = search needs
 
 extend-requires : tie.Need-extend-requires Inv-loop μ-loop
 extend-requires c κs =
-    let s = c .before .before .before .before .before .before .before in
-    let l = c .before .before .before .before .loop in
+    let before = c .before .before .before .before .before .before .before in
+    let loop = c .before .before .before .before .loop in
+    let s = before in
+    let l = loop in
     rw (c .wide16 .ensures .0) (grown-extends (now (s .args .f)) (now (s .args .ss)) (s .pre) (l .k) (omega arith) (l .f) (l .inv .1))
 
 add-k : tie.Need-add-k Inv-loop μ-loop
@@ -49,9 +47,15 @@ loop-less c = search needs
 
 loop-again : tie.Need-loop-again Inv-loop μ-loop
 loop-again c =
-    let s = c .before .before .before .before .before .before .before .before .before .before in
-    let l = c .before .before .before .before .before .before .before .loop in
-    (omega arith, grown-more (now (s .args .f)) (now (s .args .ss)) (s .pre) (l .k) (omega arith) (l .f) (l .inv .1) _ (rw (c .before .before .before .wide16 .ensures .0) at (c .before .before .extend .ensures)), c .before .before .extend .kept .0 ∙ l .inv .2)
+    let before = c .before .before .before .before .before .before .before .before .before .before in
+    let loop = c .before .before .before .before .before .before .before .loop in
+    let s = before in
+    let l = loop in (
+      omega arith,
+      grown-more (now (s .args .f)) (now (s .args .ss)) (s .pre) (l .k) (omega arith) (l .f) (l .inv .1) _
+          (rw (c .before .before .before .wide16 .ensures .0) at (c .before .before .extend .ensures)),
+      c .before .before .extend .kept .0 ∙ l .inv .2,
+    )
 
 same-length : tie.Need-same-length Inv-loop μ-loop
 same-length c = search needs

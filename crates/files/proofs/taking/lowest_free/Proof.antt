@@ -4,14 +4,11 @@ use Prim.Native.Nat.{_-_}
 use native.Mathlib.Omega.{arith}
 use lib.ListN.{length-set}
 use denote.Ref.{now}
-use Rattle.ownership.specs.Free.{isFree}
-use Rattle.files.proofs.Lowest.{Found, found-none, found-below, found-more, found-all}
 use borrow.Author.Needs.{needs}
+use Rattle.volume.specs.Sat.{isFree}
+use Rattle.files.proofs.taking.LowestFound.{Found, found-none, found-below, found-more, found-all}
 use Rattle.files.proofs.taking.lowest_free.Statement.{statement}
 use Rattle.files.proofs.taking.lowest_free.Tie as tie
-use Rattle.files.proofs.taking.lowest_free.Reads as reads
-use Rattle.files.proofs.taking.lowest_free.Lts as lts
-use Rattle.ownership.proofs.sat.next_free.Reads as next-free-reads
 
 abbrev Inv-loop : tie.InvT-loop
 Inv-loop sat t n out₀ from₀ k₀ out from k = Found (isFree sat) t n out₀ k from out
@@ -29,9 +26,11 @@ next-free-requires c κs = search needs
 
 cast-out : tie.Need-cast-out Inv-loop μ-loop
 cast-out c =
-    let s = c .before .before .before .before .before in
+    let before = c .before .before .before .before .before in
+    let s = before in
     let l = c .before .before .loop in
-    let b = found-below (isFree (now (s .args .sat))) (s .args .t) (s .args .n) (now (s .args .out)) (s .pre .2) (s .pre .3) (l .k) (l .from) (l .out) (l .inv) (omega arith) _ (c .next-free .ensures) in
+    let b = found-below (isFree (now (s .args .sat))) (s .args .t) (s .args .n) (now (s .args .out)) (s .pre .2) (s .pre .3) (l .k) (l .from) (l .out) (l .inv) (omega arith) _
+    (c .next-free .ensures) in
     omega arith
 
 mul-out : tie.Need-mul-out Inv-loop μ-loop
@@ -42,9 +41,11 @@ slice-write-out c = omega (arith, c .before .before .loop .inv .long)
 
 add-from : tie.Need-add-from Inv-loop μ-loop
 add-from c =
-    let s = c .before .before .before .before .before in
+    let before = c .before .before .before .before .before in
+    let s = before in
     let l = c .before .before .loop in
-    let b = found-below (isFree (now (s .args .sat))) (s .args .t) (s .args .n) (now (s .args .out)) (s .pre .2) (s .pre .3) (l .k) (l .from) (l .out) (l .inv) (omega arith) _ (c .next-free .ensures) in
+    let b = found-below (isFree (now (s .args .sat))) (s .args .t) (s .args .n) (now (s .args .out)) (s .pre .2) (s .pre .3) (l .k) (l .from) (l .out) (l .inv) (omega arith) _
+    (c .next-free .ensures) in
     omega arith
 
 add-k : tie.Need-add-k Inv-loop μ-loop
@@ -55,9 +56,11 @@ loop-less c = search needs
 
 loop-again : tie.Need-loop-again Inv-loop μ-loop
 loop-again c =
-    let s = c .before .before .before .before .before in
+    let before = c .before .before .before .before .before in
+    let s = before in
     let l = c .before .before .loop in
-    found-more (isFree (now (s .args .sat))) (s .args .t) (s .args .n) (now (s .args .out)) (s .pre .2) (s .pre .3) (l .k) (l .from) (l .out) (l .inv) (omega arith) _ (c .next-free .ensures) _ refl (simp length-set (l .inv .long))
+    found-more (isFree (now (s .args .sat))) (s .args .t) (s .args .n) (now (s .args .out)) (s .pre .2) (s .pre .3) (l .k) (l .from) (l .out) (l .inv) (omega arith) _
+    (c .next-free .ensures) _ refl (simp length-set (l .inv .long))
 
 same-length : tie.Need-same-length Inv-loop μ-loop
 same-length c = c .before .loop .inv .long

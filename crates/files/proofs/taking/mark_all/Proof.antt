@@ -1,15 +1,12 @@
 use mathlib.Core.Path.{_∙_}
 use native.Mathlib.Omega.{arith}
 use denote.Ref.{now}
-use Rattle.ownership.specs.Owners.{withBits}
-use Rattle.ownership.proofs.Lent.{wrote-by, length-sector}
-use Rattle.ownership.proofs.Marks.{length-withBits}
 use borrow.Author.Needs.{needs}
+use Rattle.lists.proofs.LentParts.{wrote-by, length-sector}
+use Rattle.volume.specs.Sat.{withBits}
+use Rattle.volume.proofs.BitsSet.{length-withBits}
 use Rattle.files.proofs.taking.mark_all.Statement.{statement}
 use Rattle.files.proofs.taking.mark_all.Tie as tie
-use Rattle.files.proofs.taking.mark_all.Reads as reads
-use Rattle.files.proofs.taking.mark_all.Lts as lts
-use Rattle.files.proofs.taking.mark_each.Reads as mark-each-reads
 
 mul-at : tie.Need-mul-at
 mul-at c = search needs
@@ -34,8 +31,10 @@ same-length c = search needs
 
 returns : tie.Need-returns
 returns c =
-    let a = c .before .before .before .before .before .before .args in
-    wrote-by (λ b. withBits 1 b (now (a .ss))) (a .sat) (now (a .img)) _ (c .before .before .mark-each .ensures) (length-withBits 1 _ _ ∙ length-sector (a .sat) (now (a .img)) (omega arith))
+    let args = c .before .before .before .before .before .before .args in
+    let a = args in
+    wrote-by (λ b. withBits 1 b (now (a .ss))) (a .sat) (now (a .img)) _ (c .before .before .mark-each .ensures)
+    (length-withBits 1 _ _ ∙ length-sector (a .sat) (now (a .img)) (omega arith))
 
 pub mark-all-spec : {M : Type 1} → statement M
 mark-all-spec =

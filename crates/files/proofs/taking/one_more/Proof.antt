@@ -2,8 +2,6 @@ use borrow.Author.Tests.{eq-eqb, ne-eqb}
 use borrow.Author.Needs.{needs}
 use Rattle.files.proofs.taking.one_more.Statement.{statement}
 use Rattle.files.proofs.taking.one_more.Tie as tie
-use Rattle.files.proofs.taking.one_more.Reads as reads
-use Rattle.files.proofs.taking.one_more.Lts as lts
 
 returns : tie.Need-returns
 returns c = rw (eq-eqb _ _ (c .if1 .taken))

@@ -4,18 +4,12 @@ use Prim.Native.Nat.{_-_}
 use native.Mathlib.Omega.{arith}
 use lib.ListN.{length}
 use denote.Ref.{now}
+use borrow.Author.Needs.{needs}
 use Rattle.ownership.specs.Blocks.{pairs}
 use Rattle.ownership.proofs.AccessBlocks.{length-pairs}
-use Rattle.files.proofs.Turns.{Counted, counted-none, counted-few, counted-more, counted-all}
-use borrow.Author.Needs.{needs}
+use Rattle.files.proofs.taking.TakingLoops.{Counted, counted-none, counted-few, counted-more, counted-all}
 use Rattle.files.proofs.taking.segments_with.Statement.{statement}
 use Rattle.files.proofs.taking.segments_with.Tie as tie
-use Rattle.files.proofs.taking.segments_with.Reads as reads
-use Rattle.files.proofs.taking.segments_with.Lts as lts
-use Rattle.files.proofs.stream.wide16.Reads as wide16-reads
-use Rattle.files.proofs.taking.next_after.Reads as next-after-reads
-use Rattle.files.proofs.taking.one_more.Reads as one-more-reads
-use Rattle.ownership.proofs.bytes.word_at.Reads as word-at-reads
 
 abbrev Inv-loop : tie.InvT-loop
 Inv-loop f ss n₀ next₀ k₀ n next k = Counted (pairs f) ss k n next
@@ -23,8 +17,8 @@ Inv-loop f ss n₀ next₀ k₀ n next k = Counted (pairs f) ss k n next
 abbrev μ-loop : tie.MeasureT-loop
 μ-loop f ss n₀ next₀ k₀ n next k = length ss - k
 
-word-at-requires : tie.Need-word-at-requires Inv-loop μ-loop
-word-at-requires c κs = search needs
+segments-requires : tie.Need-segments-requires Inv-loop μ-loop
+segments-requires c κs = search needs
 
 next-after-requires : tie.Need-next-after-requires Inv-loop μ-loop
 next-after-requires c κs = search needs
@@ -32,7 +26,7 @@ next-after-requires c κs = search needs
 loop-holds : tie.Need-loop-holds Inv-loop μ-loop
 loop-holds c =
     let s = c .before .before .before .before in
-    counted-none (pairs (now (s .args .f))) (now (s .args .ss)) _ _ (c .before .word-at .ensures .0 ∙ sym (length-pairs _ (s .pre .0))) (c .next-after .ensures)
+    counted-none (pairs (now (s .args .f))) (now (s .args .ss)) _ _ (c .before .segments .ensures .0 ∙ sym (length-pairs _ (s .pre .0))) (c .next-after .ensures)
 
 mul-wide16 : tie.Need-mul-wide16 Inv-loop μ-loop
 mul-wide16 c = search needs
@@ -45,7 +39,8 @@ wide16-requires c κs = search needs
 
 one-more-requires : tie.Need-one-more-requires Inv-loop μ-loop
 one-more-requires c κs =
-    let s = c .before .before .before .before .before .before .before .before in
+    let before = c .before .before .before .before .before .before .before .before in
+    let s = before in
     let l = c .before .before .before .loop in
     omega (arith, counted-few (pairs (now (s .args .f))) (now (s .args .ss)) (l .k) (l .n) (l .next) (l .inv), length-pairs (now (s .args .f)) (s .pre .0), s .pre .0 .few)
 
@@ -60,13 +55,17 @@ loop-less c = search needs
 
 loop-again : tie.Need-loop-again Inv-loop μ-loop
 loop-again c =
-    let s = c .before .before .before .before .before .before .before .before .before in
-    let l = c .before .before .before .before .loop in
-    counted-more (pairs (now (s .args .f))) (now (s .args .ss)) (l .k) (l .n) (l .next) _ _ (l .inv) (omega arith) (c .before .wide16 .ensures .0) (c .before .wide16 .ensures .1) (c .one-more .ensures)
+    let before = c .before .before .before .before .before .before .before .before .before in
+    let loop = c .before .before .before .before .loop in
+    let s = before in
+    let l = loop in
+    counted-more (pairs (now (s .args .f))) (now (s .args .ss)) (l .k) (l .n) (l .next) _ _ (l .inv) (omega arith) (c .before .wide16 .ensures .0)
+    (c .before .wide16 .ensures .1) (c .one-more .ensures)
 
 returns : tie.Need-returns Inv-loop μ-loop
 returns c =
-    let s = c .before .before .before .before .before .before in
+    let before = c .before .before .before .before .before .before in
+    let s = before in
     let l = c .before .loop in
     counted-all (pairs (now (s .args .f))) (now (s .args .ss)) (l .k) (l .n) (l .next) (c .loop-test .left) (l .inv)
 
@@ -76,7 +75,7 @@ segments-with-spec =
     (tie.spec
     Inv-loop
     μ-loop
-    word-at-requires
+    segments-requires
     next-after-requires
     loop-holds
     mul-wide16

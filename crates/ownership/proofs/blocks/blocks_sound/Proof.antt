@@ -1,16 +1,16 @@
-use Rattle.ownership.specs.Bytes.{all}
-use mathlib.Core.Path.{_≡_, refl, sym, ap, _∙_}
+use mathlib.Core.Path.{_≡_, refl, ap, _∙_, sym}
 use mathlib.Core.List.{[]}
+use Prim.Native.Nat.{_≤_, _-_, _<_}
 use native.Mathlib.Omega.{arith}
-use Prim.Native.Nat.{_-_, _≤_, _<_}
-use lib.ListN.{length, drop}
+use lib.ListN.{drop, length}
 use denote.Ref.{now}
-use borrow.Author.Tests.{not-true, not-false}
-use Rattle.ownership.specs.Blocks.{placed, sound3}
-use Rattle.ownership.proofs.Walks.{all-more, all-stop, all-end}
-use Rattle.ownership.proofs.Slots.{length-entries, length-entry}
-use Rattle.ownership.specs.Directory.{entries, entryAt}
 use borrow.Author.Needs.{needs}
+use borrow.Author.Tests.{not-true, not-false}
+use Rattle.lists.specs.Lists.{all}
+use Rattle.lists.proofs.Walks.{all-stop, all-more, all-end}
+use Rattle.volume.specs.Directory.{entries, entryAt}
+use Rattle.volume.proofs.Slots.{length-entry, length-entries}
+use Rattle.ownership.specs.Blocks.{placed, sound3}
 use Rattle.ownership.proofs.blocks.blocks_sound.Statement.{statement}
 use Rattle.ownership.proofs.blocks.blocks_sound.Tie as tie
 
@@ -32,14 +32,17 @@ entry-of-requires c κs = search needs
 
 placed-requires : tie.Need-placed-requires Inv-loop μ-loop
 placed-requires c κs =
-    let s = c .before .before .before .before .before in
+    let before = c .before .before .before .before .before in
+    let s = before in
     (s .pre .long, ap length (c .entry-of .ensures) ∙ length-entry _ _ (s .pre) (c .before .before .loop .k) (omega arith))
 
 returns : tie.Need-returns Inv-loop μ-loop
 unfolding entryAt
 returns c =
-    let s = c .before .before .before .before .before .before .before in
-    let l = c .before .before .before .before .loop in
+    let before = c .before .before .before .before .before .before .before in
+    let loop = c .before .before .before .before .loop in
+    let s = before in
+    let l = loop in
     let img = now (s .args .img) in
     let n : l .k < length (entries img) = omega (arith, length-entries img, s .pre .is-dirs) in
     let q = ap (placed img) (c .before .before .entry-of .ensures) in
@@ -54,8 +57,10 @@ loop-less c = search needs
 loop-again : tie.Need-loop-again Inv-loop μ-loop
 unfolding entryAt
 loop-again c =
-    let s = c .before .before .before .before .before .before .before in
-    let l = c .before .before .before .before .loop in
+    let before = c .before .before .before .before .before .before .before in
+    let loop = c .before .before .before .before .loop in
+    let s = before in
+    let l = loop in
     let img = now (s .args .img) in
     let n : l .k < length (entries img) = omega (arith, length-entries img, s .pre .is-dirs) in
     let q = ap (placed img) (c .before .before .entry-of .ensures) in

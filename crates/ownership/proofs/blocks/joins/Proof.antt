@@ -1,55 +1,41 @@
-use Rattle.ownership.proofs.BlockWriters.{joins-none, joins-at}
 use borrow.Author.Needs.{needs}
+use Rattle.ownership.proofs.BlockWriters.{joins-none, joins-at}
 use Rattle.ownership.proofs.blocks.joins.Statement.{statement}
 use Rattle.ownership.proofs.blocks.joins.Tie as tie
 
-word-at-requires : tie.Need-word-at-requires
-word-at-requires c κs = search needs
+segments-requires : tie.Need-segments-requires
+segments-requires c κs = search needs
 
 returns : tie.Need-returns
 returns c =
-    joins-none _ (c .before .before .before .pre) _ _ (c .before .word-at .ensures .0) (c .if1 .taken)
+    joins-none _ (c .before .before .before .pre) _ _ (c .before .segments .ensures .0) (c .if1 .taken)
 
 sub-k : tie.Need-sub-k
 sub-k c = search needs
 
-mul-word-at : tie.Need-mul-word-at
-mul-word-at c = search needs
+seg-start-requires : tie.Need-seg-start-requires
+seg-start-requires c κs = search needs
 
-add-word-at : tie.Need-add-word-at
-add-word-at c = search needs
-
-word-at-requires-2 : tie.Need-word-at-requires-2
-word-at-requires-2 c κs = search needs
-
-mul-word-at-2 : tie.Need-mul-word-at-2
-mul-word-at-2 c = search needs
-
-add-word-at-2 : tie.Need-add-word-at-2
-add-word-at-2 c = search needs
-
-word-at-requires-3 : tie.Need-word-at-requires-3
-word-at-requires-3 c κs = search needs
+seg-length-requires : tie.Need-seg-length-requires
+seg-length-requires c κs = search needs
 
 add-result : tie.Need-add-result
 add-result c = search needs
 
 returns-2 : tie.Need-returns-2
 returns-2 c =
-    joins-at _ (c .before .before .before .before .before .pre) _ _ _ _ (c .before .before .before .word-at .ensures .0) (c .before .before .if1 .left) (c .before .word-at2 .ensures .0) (c .word-at3 .ensures .0)
+    let pre = c .before .before .before .before .before .pre in
+    joins-at _ (pre) _ _ _ _ (c .before .before .before .segments .ensures .0) (c .before .before .if1 .left)
+    (c .before .seg-start .ensures .0) (c .seg-length .ensures .0)
 
 pub joins-spec : {M : Type 1} → statement M
 joins-spec =
     tie.close
     (tie.spec
-    word-at-requires
+    segments-requires
     returns
     sub-k
-    mul-word-at
-    add-word-at
-    word-at-requires-2
-    mul-word-at-2
-    add-word-at-2
-    word-at-requires-3
+    seg-start-requires
+    seg-length-requires
     add-result
     returns-2)

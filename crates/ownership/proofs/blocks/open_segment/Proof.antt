@@ -1,11 +1,11 @@
 use mathlib.Core.Path.{_∙_}
-use Rattle.ownership.proofs.BlockWriters.{wrote-new}
 use borrow.Author.Needs.{needs}
+use Rattle.ownership.proofs.BlockWriters.{wrote-new}
 use Rattle.ownership.proofs.blocks.open_segment.Statement.{statement}
 use Rattle.ownership.proofs.blocks.open_segment.Tie as tie
 
-word-at-requires : tie.Need-word-at-requires
-word-at-requires c κs = search needs
+segments-requires : tie.Need-segments-requires
+segments-requires c κs = search needs
 
 mul-at : tie.Need-mul-at
 mul-at c = search needs
@@ -33,15 +33,18 @@ same-length c = search needs
 
 returns : tie.Need-returns
 returns c =
-    let s = c .before .before .before .before .before .before .before .before .before .before .before .before .before .before .before in
-    wrote-new _ (s .pre .0) (λ i. c .before .before .before .before .before .before .before .before .before .before .before .before .before .before .slice-known .given i .fits) _ _ _ (c .before .before .before .before .before .before .before .before .before .before .before .before .word-at .ensures .0) (s .pre .1)
-    (c .before .before .put-word3 .ensures ∙ rw (c .before .before .before .before .before .before .put-word2 .ensures, c .before .before .before .before .before .before .before .before .before .before .put-word .ensures))
+    let before = c .before .before .before .before .before .before .before .before .before .before in
+    let put-word2 = c .before .before .before .before .before .before .put-word2 in
+    let far = before in
+    let s = far .before .before .before .before .before in
+    wrote-new _ (s .pre .0) (λ i. far .before .before .before .before .slice-known .given i .fits) _ _ _ (far .before .before .segments .ensures .0) (s .pre .1)
+    (c .before .before .put-word3 .ensures ∙ rw (put-word2 .ensures, far .put-word .ensures))
 
 pub open-segment-spec : {M : Type 1} → statement M
 open-segment-spec =
     tie.close
     (tie.spec
-    word-at-requires
+    segments-requires
     mul-at
     add-at
     put-word-requires

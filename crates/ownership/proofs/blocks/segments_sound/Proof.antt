@@ -1,18 +1,17 @@
-use Rattle.ownership.specs.Bytes.{_and_, all, sum}
-use Rattle.ownership.proofs.BlockTests.{sum-more, sum-end, none, segment-at, pairs-length}
 use mathlib.Core.Path.{_≡_, refl, sym, _∙_}
-use mathlib.Core.List.{[], map}
-use native.Mathlib.Omega.{arith}
+use mathlib.Core.List.{map, []}
+use Prim.Native.Nat.{_+_, _*_, _≤_, _-_, _<_}
 use native.Mathlib.Nat.{zero-add}
-use Prim.Native.Nat.{_+_, _*_, _-_, _≤_, _<_}
-use lib.ListN.{length, drop}
+use native.Mathlib.Omega.{arith}
+use lib.ListN.{drop, length, getD}
 use denote.Ref.{now}
-use borrow.Author.Tests.{not-true, not-false}
-use Rattle.ownership.specs.Blocks.{segments, pairs, segLength, segmentSound}
-use Rattle.ownership.proofs.AccessBlocks.{segLength-at}
-use Rattle.ownership.proofs.Walks.{all-more, all-stop, all-end}
-use Rattle.ownership.proofs.Bools.{and-is}
 use borrow.Author.Needs.{needs}
+use borrow.Author.Tests.{not-true, not-false}
+use Rattle.lists.specs.Lists.{all, sum, _and_}
+use Rattle.lists.proofs.Walks.{all-stop, all-more, all-end}
+use Rattle.lists.proofs.Bools.{and-is}
+use Rattle.ownership.specs.Blocks.{pairs, segLength, segmentSound, segments}
+use Rattle.ownership.proofs.BlockTests.{none, segment-at, pairs-length, sum-more, sum-end}
 use Rattle.ownership.proofs.blocks.segments_sound.Statement.{statement}
 use Rattle.ownership.proofs.blocks.segments_sound.Tie as tie
 
@@ -27,34 +26,24 @@ abbrev μ-loop : tie.MeasureT-loop
 loop-holds : tie.Need-loop-holds Inv-loop μ-loop
 loop-holds c = (search needs, search needs, refl, rw zero-add)
 
-mul-word-at : tie.Need-mul-word-at Inv-loop μ-loop
-mul-word-at c = search needs
+seg-start-requires : tie.Need-seg-start-requires Inv-loop μ-loop
+seg-start-requires c κs = search needs
 
-add-word-at : tie.Need-add-word-at Inv-loop μ-loop
-add-word-at c = search needs
-
-word-at-requires : tie.Need-word-at-requires Inv-loop μ-loop
-word-at-requires c κs = search needs
-
-mul-word-at-2 : tie.Need-mul-word-at-2 Inv-loop μ-loop
-mul-word-at-2 c = search needs
-
-add-word-at-2 : tie.Need-add-word-at-2 Inv-loop μ-loop
-add-word-at-2 c = search needs
-
-word-at-requires-2 : tie.Need-word-at-requires-2 Inv-loop μ-loop
-word-at-requires-2 c κs = search needs
+seg-length-requires : tie.Need-seg-length-requires Inv-loop μ-loop
+seg-length-requires c κs = search needs
 
 add-if1 : tie.Need-add-if1 Inv-loop μ-loop
 add-if1 c = search needs
 
 returns : tie.Need-returns Inv-loop μ-loop
 returns c =
-    let s = c .before .before .before .before .before .before in
-    let l = c .before .before .before .before .loop in
+    let before = c .before .before .before .before .before .before in
+    let loop = c .before .before .before .before .loop in
+    let s = before in
+    let l = loop in
     let f = now (s .args .f) in
     let h : l .i < segments f = omega (arith, s .pre .1) in
-    let q = segment-at (s .args .t) f (l .i) _ _ h (c .before .before .word-at .ensures .0) (c .before .word-at2 .ensures .0) in
+    let q = segment-at (s .args .t) (getD (pairs f) (l .i) []) _ _ (c .before .before .seg-start .ensures .0) (c .before .seg-length .ensures .0) in
     none _ _ (l .inv .2 ∙ all-stop (segmentSound (s .args .t)) (pairs f) [] (l .i) (omega (arith, pairs-length f)) (q ∙ sym (and-is _ _) ∙ not-true _ (c .if1 .taken)))
 
 add-long : tie.Need-add-long Inv-loop μ-loop
@@ -68,20 +57,22 @@ loop-less c = search needs
 
 loop-again : tie.Need-loop-again Inv-loop μ-loop
 loop-again c =
-    let s = c .before .before .before .before .before .before in
-    let l = c .before .before .before .before .loop in
+    let before = c .before .before .before .before .before .before in
+    let loop = c .before .before .before .before .loop in
+    let s = before in
+    let l = loop in
     let f = now (s .args .f) in
     let h : l .i < segments f = omega (arith, s .pre .1) in
     let g : l .i < length (pairs f) = omega (arith, pairs-length f) in
-    let q = segment-at (s .args .t) f (l .i) _ _ h (c .before .before .word-at .ensures .0) (c .before .word-at2 .ensures .0) in (
+    let q = segment-at (s .args .t) (getD (pairs f) (l .i) []) _ _ (c .before .before .seg-start .ensures .0) (c .before .seg-length .ensures .0) in (
       omega arith,
       omega arith,
       l .inv .2 ∙ all-more (segmentSound (s .args .t)) (pairs f) [] (l .i) g (q ∙ sym (and-is _ _) ∙ not-false _ (c .if1 .left)),
-      omega (arith, l .inv .3, sum-more (pairs f) (l .i) g, segLength-at f (l .i) h, c .before .word-at2 .ensures .0),
+      omega (arith, l .inv .3, sum-more (pairs f) (l .i) g, c .before .seg-length .ensures .0),
     )
 
-word-at-requires-3 : tie.Need-word-at-requires-3 Inv-loop μ-loop
-word-at-requires-3 c κs = search needs
+total-requires : tie.Need-total-requires Inv-loop μ-loop
+total-requires c κs = search needs
 
 returns-2 : tie.Need-returns-2 Inv-loop μ-loop
 unfolding _and_
@@ -91,7 +82,7 @@ returns-2 c =
     let f = now (s .args .f) in
     let g : length (pairs f) ≤ l .i = omega (arith, pairs-length f, s .pre .1) in
     let e : sum (map (λ p. segLength p) (pairs f)) ≡ l .long = omega (arith, l .inv .3, sum-end (pairs f) (l .i) g) in
-    rw (l .inv .2 ∙ all-end (segmentSound (s .args .t)) (pairs f) (l .i) g, e, c .word-at3 .ensures .0)
+    rw (l .inv .2 ∙ all-end (segmentSound (s .args .t)) (pairs f) (l .i) g, e, c .total .ensures .0)
 
 pub segments-sound-spec : {M : Type 1} → statement M
 segments-sound-spec =
@@ -100,17 +91,13 @@ segments-sound-spec =
     Inv-loop
     μ-loop
     loop-holds
-    mul-word-at
-    add-word-at
-    word-at-requires
-    mul-word-at-2
-    add-word-at-2
-    word-at-requires-2
+    seg-start-requires
+    seg-length-requires
     add-if1
     returns
     add-long
     add-i
     loop-less
     loop-again
-    word-at-requires-3
+    total-requires
     returns-2)

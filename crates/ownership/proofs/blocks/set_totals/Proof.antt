@@ -1,6 +1,6 @@
 use mathlib.Core.Path.{_∙_}
-use Rattle.ownership.proofs.BlockWriters.{wrote-totals}
 use borrow.Author.Needs.{needs}
+use Rattle.ownership.proofs.BlockWriters.{wrote-totals}
 use Rattle.ownership.proofs.blocks.set_totals.Statement.{statement}
 use Rattle.ownership.proofs.blocks.set_totals.Tie as tie
 
@@ -15,8 +15,12 @@ same-length c = search needs
 
 returns : tie.Need-returns
 returns c =
-    let s = c .before .before .before .before .before .before .before .before .before in
-    wrote-totals _ (s .pre .0) (λ i. c .before .before .before .before .before .before .before .before .slice-known .given i .fits) _ _ _ (c .before .before .put-long .ensures ∙ rw (c .before .before .before .before .before .before .put-word .ensures))
+    let before = c .before .before .before .before .before .before .before .before .before in
+    let slice-known = c .before .before .before .before .before .before .before .before .slice-known in
+    let put-word = c .before .before .before .before .before .before .put-word in
+    let s = before in
+    wrote-totals _ (s .pre .0) (λ i. slice-known .given i .fits) _ _ _
+    (c .before .before .put-long .ensures ∙ rw (put-word .ensures))
 
 pub set-totals-spec : {M : Type 1} → statement M
 set-totals-spec = tie.close (tie.spec put-word-requires put-long-requires same-length returns)

@@ -1,7 +1,7 @@
 use mathlib.Core.Path.{sym, _∙_}
-use Rattle.ownership.proofs.Located.{located, nowhere}
-use Rattle.ownership.proofs.Verdicts.{judged-unsound, fails-1}
 use borrow.Author.Needs.{needs}
+use Rattle.volume.proofs.Located.{located, nowhere}
+use Rattle.ownership.proofs.Verdicts.{judged-unsound, fails-1}
 use Rattle.ownership.proofs.judge.judge.Statement.{statement}
 use Rattle.ownership.proofs.judge.judge.Tie as tie
 

@@ -1,13 +1,13 @@
 use mathlib.Core.Path.{_≡_, refl, sym, _∙_}
+use Prim.Native.Nat.{_≤_, _-_}
 use native.Mathlib.Omega.{arith}
-use Prim.Native.Nat.{_-_, _≤_}
 use lib.ListN.{drop}
 use denote.Ref.{now}
-use Rattle.ownership.proofs.Walks.{same-more, same-stop, same-end}
-use Rattle.ownership.proofs.OwnersSound.{length-tableOf, byte-tableOf}
-use Rattle.ownership.specs.Bytes.{same}
-use Rattle.ownership.specs.Claims.{tableOf}
 use borrow.Author.Needs.{needs}
+use Rattle.lists.specs.Lists.{same}
+use Rattle.lists.proofs.Walks.{same-stop, same-more, same-end}
+use Rattle.ownership.specs.Code.Claims.{tableOf}
+use Rattle.ownership.proofs.OwnersSound.{length-tableOf, byte-tableOf}
 use Rattle.ownership.proofs.owners.agrees.Statement.{statement}
 use Rattle.ownership.proofs.owners.agrees.Tie as tie
 
@@ -34,8 +34,10 @@ byte-of-requires c κs = search needs
 
 returns : tie.Need-returns Inv-loop μ-loop
 returns c =
-    let s = c .before .before .before .before .before .before .before .before in
-    let l = c .before .before .before .before .before .loop in
+    let before = c .before .before .before .before .before .before .before .before in
+    let loop = c .before .before .before .before .before .loop in
+    let s = before in
+    let l = loop in
     let t = byte-tableOf (now (s .args .marks)) (l .i) (omega arith) in
     let w = c .before .before .wide .ensures .0 in
     sym (l .inv .1 ∙ same-stop _ _ (l .i) (omega arith) (omega (arith, length-tableOf (now (s .args .marks)))) (λ q. c .if1 .taken (w ∙ q ∙ t ∙ sym (c .before .byte-of .ensures))))
@@ -48,11 +50,16 @@ loop-less c = search needs
 
 loop-again : tie.Need-loop-again Inv-loop μ-loop
 loop-again c =
-    let s = c .before .before .before .before .before .before .before .before in
-    let l = c .before .before .before .before .before .loop in
+    let before = c .before .before .before .before .before .before .before .before in
+    let loop = c .before .before .before .before .before .loop in
+    let s = before in
+    let l = loop in
     let t = byte-tableOf (now (s .args .marks)) (l .i) (omega arith) in
-    let w = c .before .before .wide .ensures .0 in
-    (omega arith, l .inv .1 ∙ same-more _ _ (l .i) (omega arith) (omega (arith, length-tableOf (now (s .args .marks)))) (sym w ∙ c .if1 .left ∙ c .before .byte-of .ensures ∙ sym t))
+    let w = c .before .before .wide .ensures .0 in (
+      omega arith,
+      l .inv .1 ∙ same-more _ _ (l .i) (omega arith) (omega (arith, length-tableOf (now (s .args .marks))))
+          (sym w ∙ c .if1 .left ∙ c .before .byte-of .ensures ∙ sym t),
+    )
 
 returns-2 : tie.Need-returns-2 Inv-loop μ-loop
 returns-2 c =

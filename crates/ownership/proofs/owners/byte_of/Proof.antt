@@ -1,6 +1,6 @@
 use native.Mathlib.Omega.{arith}
-use Rattle.ownership.specs.Claims.{weighed}
 use borrow.Author.Needs.{needs}
+use Rattle.ownership.specs.Code.Claims.{weighed}
 use Rattle.ownership.proofs.owners.byte_of.Statement.{statement}
 use Rattle.ownership.proofs.owners.byte_of.Tie as tie
 

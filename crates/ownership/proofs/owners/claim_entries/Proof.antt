@@ -1,19 +1,19 @@
-use Rattle.ownership.proofs.Owning.{placed-entry}
 use mathlib.Core.Path.{_≡_, refl, ap, _∙_}
 use mathlib.Core.Bool.{Bool}
 use mathlib.Core.List.{List, []}
+use Prim.Native.Nat.{ℕ, _≤_, _-_, _<_}
 use native.Mathlib.Omega.{arith}
-use Prim.Native.Nat.{ℕ, _-_, _≤_, _<_}
 use lib.ListN.{length}
 use denote.Ref.{now}
-use borrow.Author.Tests.{not-true, not-false}
-use Rattle.ownership.specs.Claims.{Claims}
-use Rattle.ownership.proofs.Claiming.{Rest, rest-more, rest-fails, rest-none}
-use Rattle.ownership.proofs.Slots.{length-entries, length-entry}
-use Rattle.ownership.specs.Directory.{entries, entryAt}
-use Rattle.ownership.specs.Owners.{owned}
-use Rattle.ownership.specs.Bytes.{flat}
 use borrow.Author.Needs.{needs}
+use borrow.Author.Tests.{not-true, not-false}
+use Rattle.lists.specs.Lists.{flat}
+use Rattle.volume.specs.Directory.{entries, entryAt}
+use Rattle.volume.proofs.Slots.{length-entries, length-entry}
+use Rattle.ownership.specs.Code.Claims.{Claims}
+use Rattle.ownership.specs.Owners.{owned}
+use Rattle.ownership.proofs.ClaimsFollow.{Rest, rest-fails, rest-more, rest-none}
+use Rattle.ownership.proofs.OwnedRuns.{placed-entry}
 use Rattle.ownership.proofs.owners.claim_entries.Statement.{statement}
 use Rattle.ownership.proofs.owners.claim_entries.Tie as tie
 
@@ -36,7 +36,8 @@ entry-of-requires c κs = search needs
 
 claim-entry-requires : tie.Need-claim-entry-requires Inv-loop μ-loop
 claim-entry-requires c κs =
-    let s = c .before .before .before .before .before .before .before in
+    let before = c .before .before .before .before .before .before .before in
+    let s = before in
     let l = c .before .before .before .loop in
     let img = now (s .args .img) in
     let g = c .entry-of .ensures in
@@ -49,12 +50,15 @@ same-length c = search needs
 returns : tie.Need-returns Inv-loop μ-loop
 unfolding entryAt
 returns c =
-    let s = c .before .before .before .before .before .before .before .before .before .before .before in
-    let l = c .before .before .before .before .before .before .before .loop in
+    let before = c .before .before .before .before .before .before .before .before .before .before .before in
+    let loop = c .before .before .before .before .before .before .before .loop in
+    let entry-of = c .before .before .before .before .entry-of in
+    let s = before in
+    let l = loop in
     let img = now (s .args .img) in
     let k = c .before .before .before .claim-entry in
     let n : l .k < length (entries img) = omega (arith, length-entries img, s .pre .1 .is-dirs) in
-    l .inv .2 _ _ (rest-fails (owned img) (entries img) [] n (rw (c .before .before .before .before .entry-of .ensures, not-true (k .result) (c .if1 .taken)) at (k .ensures)))
+    l .inv .2 _ _ (rest-fails (owned img) (entries img) [] n (rw (entry-of .ensures, not-true (k .result) (c .if1 .taken)) at (k .ensures)))
 
 add-k : tie.Need-add-k Inv-loop μ-loop
 add-k c = search needs
@@ -65,14 +69,18 @@ loop-less c = search needs
 loop-again : tie.Need-loop-again Inv-loop μ-loop
 unfolding entryAt
 loop-again c =
-    let s = c .before .before .before .before .before .before .before .before .before .before .before in
-    let l = c .before .before .before .before .before .before .before .loop in
+    let before = c .before .before .before .before .before .before .before .before .before .before .before in
+    let loop = c .before .before .before .before .before .before .before .loop in
+    let entry-of = c .before .before .before .before .entry-of in
+    let s = before in
+    let l = loop in
     let img = now (s .args .img) in
     let k = c .before .before .before .claim-entry in
     let n : l .k < length (entries img) = omega (arith, length-entries img, s .pre .1 .is-dirs) in (
       omega arith,
       k .kept .0 ∙ l .inv .1,
-      (λ r m q. l .inv .2 r m (rest-more (owned img) (entries img) [] n (rw (c .before .before .before .before .entry-of .ensures, not-false (k .result) (c .if1 .left)) at (k .ensures)) q)),
+      (λ r m q. l .inv .2 r m (rest-more (owned img) (entries img) [] n
+          (rw (entry-of .ensures, not-false (k .result) (c .if1 .left)) at (k .ensures)) q)),
     )
 
 same-length-2 : tie.Need-same-length-2 Inv-loop μ-loop
@@ -80,7 +88,8 @@ same-length-2 c = search needs
 
 returns-2 : tie.Need-returns-2 Inv-loop μ-loop
 returns-2 c =
-    let s = c .before .before .before .before .before in
+    let before = c .before .before .before .before .before in
+    let s = before in
     let l = c .before .loop in
     let img = now (s .args .img) in
     let n : length (entries img) ≤ l .k = omega (arith, length-entries img, s .pre .1 .is-dirs) in

@@ -1,15 +1,15 @@
 use mathlib.Core.Path.{_≡_, refl}
 use mathlib.Core.Bool.{Bool}
 use mathlib.Core.List.{List}
-use native.Mathlib.Omega.{arith}
-use native.Mathlib.Nat.{add-sub-cancel-left}
 use Prim.Native.Nat.{ℕ, _-_, _≤_}
+use native.Mathlib.Nat.{add-sub-cancel-left}
+use native.Mathlib.Omega.{arith}
 use lib.ListN.{length, length-set}
-use borrow.Author.Tests.{eq-eqb, ne-eqb}
-use Rattle.ownership.specs.Bytes.{range}
-use Rattle.ownership.specs.Claims.{Claims}
-use Rattle.ownership.proofs.Claiming.{run-more, run-fails, run-none}
 use borrow.Author.Needs.{needs}
+use borrow.Author.Tests.{ne-eqb, eq-eqb}
+use Rattle.lists.specs.Lists.{range}
+use Rattle.ownership.specs.Code.Claims.{Claims}
+use Rattle.ownership.proofs.ClaimsFollow.{run-fails, run-more, run-none}
 use Rattle.ownership.proofs.owners.claim_run.Statement.{statement}
 use Rattle.ownership.proofs.owners.claim_run.Tie as tie
 

@@ -1,6 +1,6 @@
 use mathlib.Core.Path.{_∙_}
-use Rattle.ownership.proofs.Freeing.{withBits-cons}
 use borrow.Author.Needs.{needs}
+use Rattle.ownership.proofs.Freeing.{withBits-cons}
 use Rattle.ownership.proofs.owners.free_block.Statement.{statement}
 use Rattle.ownership.proofs.owners.free_block.Tie as tie
 
@@ -14,7 +14,9 @@ same-length : tie.Need-same-length
 same-length c = search needs
 
 returns : tie.Need-returns
-returns c = c .before .before .free-segments .ensures ∙ rw (c .before .before .before .before .before .before .clear-mark .ensures) (withBits-cons 0 _ _ _)
+returns c =
+    let clear-mark = c .before .before .before .before .before .before .clear-mark in
+    c .before .before .free-segments .ensures ∙ rw (clear-mark .ensures) (withBits-cons 0 _ _ _)
 
 pub free-block-spec : {M : Type 1} → statement M
 free-block-spec =

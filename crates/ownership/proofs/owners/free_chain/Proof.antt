@@ -1,18 +1,18 @@
 use mathlib.Core.Path.{_≡_, ap, _∙_}
+use mathlib.Core.List.{_∷_}
+use Prim.Native.Nat.{_+_, _*_}
 use native.Mathlib.Omega.{arith}
 use native.Mathlib.Nat.{add-sub-cancel-left}
-use Prim.Native.Nat.{_+_, _*_}
 use lib.ListN.{length}
 use denote.Ref.{now}
-use Rattle.ownership.specs.Blocks.{sectorsOf}
-use Rattle.ownership.specs.Owners.{withBits}
-use Rattle.ownership.proofs.Lent.{length-sector, wrote-by}
-use Rattle.ownership.proofs.Walks.{over-all}
-use Rattle.ownership.proofs.Marks.{length-withBits}
-use Rattle.ownership.specs.Bytes.{sector}
-use borrow.Rule.Slice.PartMut.{mid-len}
-use mathlib.Core.List.{_∷_}
 use borrow.Author.Needs.{needs}
+use borrow.Rule.Slice.PartMut.{mid-len}
+use Rattle.lists.specs.Parts.{sector}
+use Rattle.lists.proofs.LentParts.{length-sector, wrote-by}
+use Rattle.lists.proofs.Walks.{over-all}
+use Rattle.volume.specs.Sat.{withBits}
+use Rattle.volume.proofs.BitsSet.{length-withBits}
+use Rattle.ownership.specs.Blocks.{sectorsOf}
 use Rattle.ownership.proofs.owners.free_chain.Statement.{statement}
 use Rattle.ownership.proofs.owners.free_chain.Tie as tie
 
@@ -51,25 +51,35 @@ slice-aggregate-free-block c = search needs
 
 free-block-requires : tie.Need-free-block-requires
 free-block-requires c κs =
-    let s = c .before .before .before .before .before .before .before .before in
+    let before = c .before .before .before .before .before .before .before .before in
+    let sector-of = c .before .before .before .before .sector-of in
+    let s = before in
     let a = s .args in
     let img = now (a .img) in
-    let o = c .before .before .before .before .sector-of .ensures in
-    let n : length (now (c .before .before .before .before .sector-of .result)) ≡ 256 = ap length o ∙ length-sector (a .at) img (omega arith) in
-    let g = c .before .before .before .copy-in .ensures ∙ over-all _ _ (omega (arith, n)) ∙ o in
-    (mid-len (256 * a .sat) (256 * a .sat + 256) img (omega arith) ∙ add-sub-cancel-left (256 * a .sat) 256, s .pre .2, ap length g ∙ length-sector (a .at) img (omega arith), s .pre .3, rw g (s .pre .4))
+    let o = sector-of .ensures in
+    let n : length (now (sector-of .result)) ≡ 256 = ap length o ∙ length-sector (a .at) img (omega arith) in
+    let g = c .before .before .before .copy-in .ensures ∙ over-all _ _ (omega (arith, n)) ∙ o in (
+      mid-len (256 * a .sat) (256 * a .sat + 256) img (omega arith) ∙ add-sub-cancel-left (256 * a .sat) 256,
+      s .pre .2,
+      ap length g ∙ length-sector (a .at) img (omega arith),
+      s .pre .3,
+      rw g (s .pre .4),
+    )
 
 same-length : tie.Need-same-length
 same-length c = search needs
 
 returns : tie.Need-returns
 returns c =
-    let s = c .before .before .before .before .before .before .before .before .before .before .before in
+    let before = c .before .before .before .before .before .before .before .before .before .before .before in
+    let sector-of = c .before .before .before .before .before .before .before .sector-of in
+    let copy-in = c .before .before .before .before .before .before .copy-in in
+    let s = before in
     let a = s .args in
     let img = now (a .img) in
-    let o = c .before .before .before .before .before .before .before .sector-of .ensures in
-    let n : length (now (c .before .before .before .before .before .before .before .sector-of .result)) ≡ 256 = ap length o ∙ length-sector (a .at) img (omega arith) in
-    let g = c .before .before .before .before .before .before .copy-in .ensures ∙ over-all _ _ (omega (arith, n)) ∙ o in
+    let o = sector-of .ensures in
+    let n : length (now (sector-of .result)) ≡ 256 = ap length o ∙ length-sector (a .at) img (omega arith) in
+    let g = copy-in .ensures ∙ over-all _ _ (omega (arith, n)) ∙ o in
     wrote-by (λ b. withBits 0 b (a .at ∷ sectorsOf (sector (a .at) img))) (a .sat) img _ (rw g at (c .before .before .free-block .ensures))
     (length-withBits 0 _ _ ∙ length-sector (a .sat) img (omega arith))
 

@@ -1,10 +1,10 @@
 use mathlib.Core.Path.{ap, _∙_}
 use native.Mathlib.Omega.{arith}
 use lib.ListN.{length}
-use Rattle.ownership.proofs.Lent.{length-sector}
-use Rattle.ownership.specs.Free.{freeSectors, free}
-use Rattle.ownership.specs.Volume.{sat}
 use borrow.Author.Needs.{needs}
+use Rattle.lists.proofs.LentParts.{length-sector}
+use Rattle.volume.specs.Sat.{freeSectors, free}
+use Rattle.volume.specs.Volume.{sat}
 use Rattle.ownership.proofs.owners.free_sectors.Statement.{statement}
 use Rattle.ownership.proofs.owners.free_sectors.Tie as tie
 

@@ -1,10 +1,10 @@
 use mathlib.Core.Path.{ap, _∙_}
 use native.Mathlib.Omega.{arith}
 use lib.ListN.{length}
-use borrow.Author.Tests.{not-true, not-false}
-use Rattle.ownership.proofs.OwnersSound.{owned-once, owned-twice}
-use Rattle.ownership.proofs.Lent.{length-sector}
 use borrow.Author.Needs.{needs}
+use borrow.Author.Tests.{not-true, not-false}
+use Rattle.lists.proofs.LentParts.{length-sector}
+use Rattle.ownership.proofs.OwnersSound.{owned-twice, owned-once}
 use Rattle.ownership.proofs.owners.owners_sound.Statement.{statement}
 use Rattle.ownership.proofs.owners.owners_sound.Tie as tie
 
@@ -16,7 +16,8 @@ claim-all-requires c κs = search needs
 
 returns : tie.Need-returns
 returns c =
-    let s = c .before .before .before .before .before in
+    let before = c .before .before .before .before .before in
+    let s = before in
     let k = c .before .before .claim-all in
     owned-twice _ _ (s .pre .0) (s .pre .1) _ (rw (not-true (k .result) (c .if1 .taken)) at (k .ensures))
 
@@ -28,14 +29,18 @@ slice-aggregate-agrees c = search needs
 
 agrees-requires : tie.Need-agrees-requires
 agrees-requires c κs =
-    let s = c .before .before .before .before .before .before .before in
+    let before = c .before .before .before .before .before .before .before in
+    let s = before in
     (ap length (c .before .sector-of .ensures) ∙ length-sector _ _ (omega (arith, s .pre .0 .long, s .pre .0 .sat-in)), search needs)
 
 returns-2 : tie.Need-returns-2
 returns-2 c =
-    let s = c .before .before .before .before .before .before .before .before in
-    let k = c .before .before .before .before .before .claim-all in
-    owned-once _ _ (s .pre .0) (s .pre .1) _ _ (rw (not-false (k .result) (c .before .before .before .if1 .left)) at (k .ensures)) (rw (c .before .before .sector-of .ensures) at (c .agrees .ensures))
+    let before = c .before .before .before .before .before .before .before .before in
+    let claim-all = c .before .before .before .before .before .claim-all in
+    let s = before in
+    let k = claim-all in
+    owned-once _ _ (s .pre .0) (s .pre .1) _ _ (rw (not-false (k .result) (c .before .before .before .if1 .left)) at (k .ensures))
+    (rw (c .before .before .sector-of .ensures) at (c .agrees .ensures))
 
 pub owners-sound-spec : {M : Type 1} → statement M
 owners-sound-spec =

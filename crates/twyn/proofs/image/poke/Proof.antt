@@ -1,4 +1,4 @@
-use Prim.Native.Nat.{_≤_, _+_, _-_}
+use Prim.Native.Nat.{_≤_, _-_, _+_}
 use lib.ListN.{length}
 use mathlib.Core.Path.{_≡_}
 use borrow.Author.Needs.{needs}
@@ -6,19 +6,19 @@ use Rattle.twyn.proofs.image.poke.Statement.{statement}
 use Rattle.twyn.proofs.image.poke.Tie as tie
 
 abbrev Inv-loop : tie.InvT-loop
-Inv-loop image₀ at s i₀ image i = (i ≤ length s) × ((length image ≡ length image₀) × (at + length s ≤ length image))
+Inv-loop image₀ at s from i₀ image i = (i ≤ length s) × ((length image ≡ length image₀) × (from + length s ≤ length image₀))
 
 abbrev μ-loop : tie.MeasureT-loop
-μ-loop image₀ at s i₀ image i = length s - i
+μ-loop image₀ at s from i₀ image i = length s - i
+
+least-requires : tie.Need-least-requires Inv-loop μ-loop
+least-requires c κs = search needs
+
+sub-if1 : tie.Need-sub-if1 Inv-loop μ-loop
+sub-if1 c = search needs
 
 returns : tie.Need-returns Inv-loop μ-loop
 returns c = search needs
-
-sub-if2 : tie.Need-sub-if2 Inv-loop μ-loop
-sub-if2 c = search needs
-
-returns-2 : tie.Need-returns-2 Inv-loop μ-loop
-returns-2 c = search needs
 
 loop-holds : tie.Need-loop-holds Inv-loop μ-loop
 loop-holds c = search needs
@@ -44,8 +44,8 @@ loop-again c = search needs
 same-length : tie.Need-same-length Inv-loop μ-loop
 same-length c = search needs
 
-returns-3 : tie.Need-returns-3 Inv-loop μ-loop
-returns-3 c = search needs
+returns-2 : tie.Need-returns-2 Inv-loop μ-loop
+returns-2 c = search needs
 
 pub poke-spec : {M : Type 1} → statement M
 poke-spec =
@@ -53,9 +53,9 @@ poke-spec =
     (tie.spec
     Inv-loop
     μ-loop
+    least-requires
+    sub-if1
     returns
-    sub-if2
-    returns-2
     loop-holds
     shared-slice-read-image
     add-image
@@ -64,4 +64,4 @@ poke-spec =
     loop-less
     loop-again
     same-length
-    returns-3)
+    returns-2)

@@ -1,18 +1,19 @@
 use Prim.Native.Nat.{_≤_, _-_}
-use lib.ListN.{length}
-use mathlib.Core.Path.{_≡_}
 use borrow.Author.Needs.{needs}
 use Rattle.twyn.proofs.listing.desk.Statement.{statement}
 use Rattle.twyn.proofs.listing.desk.Tie as tie
 
 abbrev Inv-loop : tie.InvT-loop
-Inv-loop out₀ d at₀ i₀ t8 out at i = (i ≤ 16) × (length out ≡ length out₀)
+Inv-loop d t₀ i₀ t7 t i = i ≤ 16
 
 abbrev μ-loop : tie.MeasureT-loop
-μ-loop out₀ d at₀ i₀ t8 out at i = 16 - i
+μ-loop d t₀ i₀ t7 t i = 16 - i
 
 element-copy-out-first : tie.Need-element-copy-out-first Inv-loop μ-loop
 element-copy-out-first c = search needs
+
+empty-requires : tie.Need-empty-requires Inv-loop μ-loop
+empty-requires c κs = search needs
 
 unit-requires : tie.Need-unit-requires Inv-loop μ-loop
 unit-requires c κs = search needs
@@ -26,11 +27,11 @@ mul-u c = search needs
 element-copy-out-u : tie.Need-element-copy-out-u Inv-loop μ-loop
 element-copy-out-u c = search needs
 
-slice-aggregate-text : tie.Need-slice-aggregate-text Inv-loop μ-loop
-slice-aggregate-text c = search needs
+slice-aggregate-word : tie.Need-slice-aggregate-word Inv-loop μ-loop
+slice-aggregate-word c = search needs
 
-text-requires : tie.Need-text-requires Inv-loop μ-loop
-text-requires c κs = search needs
+word-requires : tie.Need-word-requires Inv-loop μ-loop
+word-requires c κs = search needs
 
 unit-requires-2 : tie.Need-unit-requires-2 Inv-loop μ-loop
 unit-requires-2 c κs = search needs
@@ -44,9 +45,6 @@ loop-less c = search needs
 loop-again : tie.Need-loop-again Inv-loop μ-loop
 loop-again c = search needs
 
-same-length : tie.Need-same-length Inv-loop μ-loop
-same-length c = search needs
-
 returns : tie.Need-returns Inv-loop μ-loop
 returns c = search needs
 
@@ -57,15 +55,15 @@ desk-spec =
     Inv-loop
     μ-loop
     element-copy-out-first
+    empty-requires
     unit-requires
     loop-holds
     mul-u
     element-copy-out-u
-    slice-aggregate-text
-    text-requires
+    slice-aggregate-word
+    word-requires
     unit-requires-2
     add-i
     loop-less
     loop-again
-    same-length
     returns)

@@ -1,36 +1,23 @@
-use Prim.Native.Nat.{_≤_, _*_, _-_}
+use Prim.Native.Nat.{_≤_, _-_, _*_}
 use lib.ListN.{length}
-use mathlib.Core.Path.{_≡_}
 use borrow.Author.Needs.{needs}
 use Rattle.twyn.proofs.words.bytes_of.Statement.{statement}
 use Rattle.twyn.proofs.words.bytes_of.Tie as tie
 
 abbrev Inv-loop : tie.InvT-loop
-Inv-loop word into₀ pairs i₀ into i = (i ≤ pairs) × ((length into ≡ length into₀) × ((pairs ≤ length into₀) × (2 * pairs ≤ length word)))
+Inv-loop word pairs ok₀ b₀ i₀ t8 ok b i = (i ≤ pairs) × ((pairs ≤ 8192) × (2 * pairs ≤ length word))
 
 abbrev μ-loop : tie.MeasureT-loop
-μ-loop word into₀ pairs i₀ into i = pairs - i
+μ-loop word pairs ok₀ b₀ i₀ t8 ok b i = pairs - i
 
-slice-aggregate-same : tie.Need-slice-aggregate-same Inv-loop μ-loop
-slice-aggregate-same c = search needs
+least-requires : tie.Need-least-requires Inv-loop μ-loop
+least-requires c κs = search needs
 
-same-requires : tie.Need-same-requires Inv-loop μ-loop
-same-requires c κs = search needs
-
-returns : tie.Need-returns Inv-loop μ-loop
-returns c = search needs
+mul-ok : tie.Need-mul-ok Inv-loop μ-loop
+mul-ok c = search needs
 
 no-bytes-requires : tie.Need-no-bytes-requires Inv-loop μ-loop
 no-bytes-requires c κs = search needs
-
-returns-2 : tie.Need-returns-2 Inv-loop μ-loop
-returns-2 c = search needs
-
-no-bytes-requires-2 : tie.Need-no-bytes-requires-2 Inv-loop μ-loop
-no-bytes-requires-2 c κs = search needs
-
-returns-3 : tie.Need-returns-3 Inv-loop μ-loop
-returns-3 c = search needs
 
 loop-holds : tie.Need-loop-holds Inv-loop μ-loop
 loop-holds c = search needs
@@ -56,32 +43,14 @@ shared-slice-read-digit-2 c = search needs
 digit-requires-2 : tie.Need-digit-requires-2 Inv-loop μ-loop
 digit-requires-2 c κs = search needs
 
-no-bytes-requires-3 : tie.Need-no-bytes-requires-3 Inv-loop μ-loop
-no-bytes-requires-3 c κs = search needs
+mul-b : tie.Need-mul-b Inv-loop μ-loop
+mul-b c = search needs
 
-same-length : tie.Need-same-length Inv-loop μ-loop
-same-length c = search needs
+add-b : tie.Need-add-b Inv-loop μ-loop
+add-b c = search needs
 
-returns-4 : tie.Need-returns-4 Inv-loop μ-loop
-returns-4 c = search needs
-
-no-bytes-requires-4 : tie.Need-no-bytes-requires-4 Inv-loop μ-loop
-no-bytes-requires-4 c κs = search needs
-
-same-length-2 : tie.Need-same-length-2 Inv-loop μ-loop
-same-length-2 c = search needs
-
-returns-5 : tie.Need-returns-5 Inv-loop μ-loop
-returns-5 c = search needs
-
-mul-into : tie.Need-mul-into Inv-loop μ-loop
-mul-into c = search needs
-
-add-into : tie.Need-add-into Inv-loop μ-loop
-add-into c = search needs
-
-slice-write-into : tie.Need-slice-write-into Inv-loop μ-loop
-slice-write-into c = search needs
+element-write-b : tie.Need-element-write-b Inv-loop μ-loop
+element-write-b c = search needs
 
 add-i : tie.Need-add-i Inv-loop μ-loop
 add-i c = search needs
@@ -92,11 +61,14 @@ loop-less c = search needs
 loop-again : tie.Need-loop-again Inv-loop μ-loop
 loop-again c = search needs
 
-same-length-3 : tie.Need-same-length-3 Inv-loop μ-loop
-same-length-3 c = search needs
+slice-aggregate-same-bytes : tie.Need-slice-aggregate-same-bytes Inv-loop μ-loop
+slice-aggregate-same-bytes c = search needs
 
-returns-6 : tie.Need-returns-6 Inv-loop μ-loop
-returns-6 c = search needs
+same-bytes-requires : tie.Need-same-bytes-requires Inv-loop μ-loop
+same-bytes-requires c κs = search needs
+
+returns : tie.Need-returns Inv-loop μ-loop
+returns c = search needs
 
 pub bytes-of-spec : {M : Type 1} → statement M
 bytes-of-spec =
@@ -104,13 +76,9 @@ bytes-of-spec =
     (tie.spec
     Inv-loop
     μ-loop
-    slice-aggregate-same
-    same-requires
-    returns
+    least-requires
+    mul-ok
     no-bytes-requires
-    returns-2
-    no-bytes-requires-2
-    returns-3
     loop-holds
     mul-digit
     shared-slice-read-digit
@@ -119,17 +87,12 @@ bytes-of-spec =
     add-digit
     shared-slice-read-digit-2
     digit-requires-2
-    no-bytes-requires-3
-    same-length
-    returns-4
-    no-bytes-requires-4
-    same-length-2
-    returns-5
-    mul-into
-    add-into
-    slice-write-into
+    mul-b
+    add-b
+    element-write-b
     add-i
     loop-less
     loop-again
-    same-length-3
-    returns-6)
+    slice-aggregate-same-bytes
+    same-bytes-requires
+    returns)

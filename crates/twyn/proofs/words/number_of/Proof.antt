@@ -5,49 +5,22 @@ use Rattle.twyn.proofs.words.number_of.Statement.{statement}
 use Rattle.twyn.proofs.words.number_of.Tie as tie
 
 abbrev Inv-loop : tie.InvT-loop
-Inv-loop word value₀ i₀ value i = (i ≤ length word) × (value ≤ 4294967295)
+Inv-loop word ok₀ value₀ i₀ ok value i = (i ≤ length word) × (value ≤ 4294967296)
 
 abbrev μ-loop : tie.MeasureT-loop
-μ-loop word value₀ i₀ value i = length word - i
-
-no-number-requires : tie.Need-no-number-requires Inv-loop μ-loop
-no-number-requires c κs = search needs
-
-returns : tie.Need-returns Inv-loop μ-loop
-returns c = search needs
+μ-loop word ok₀ value₀ i₀ ok value i = length word - i
 
 loop-holds : tie.Need-loop-holds Inv-loop μ-loop
 loop-holds c = search needs
 
-shared-slice-read-b : tie.Need-shared-slice-read-b Inv-loop μ-loop
-shared-slice-read-b c = search needs
+shared-slice-read-digit : tie.Need-shared-slice-read-digit Inv-loop μ-loop
+shared-slice-read-digit c = search needs
 
-no-number-requires-2 : tie.Need-no-number-requires-2 Inv-loop μ-loop
-no-number-requires-2 c κs = search needs
+digit-requires : tie.Need-digit-requires Inv-loop μ-loop
+digit-requires c κs = search needs
 
-returns-2 : tie.Need-returns-2 Inv-loop μ-loop
-returns-2 c = search needs
-
-no-number-requires-3 : tie.Need-no-number-requires-3 Inv-loop μ-loop
-no-number-requires-3 c κs = search needs
-
-returns-3 : tie.Need-returns-3 Inv-loop μ-loop
-returns-3 c = search needs
-
-mul-value : tie.Need-mul-value Inv-loop μ-loop
-mul-value c = search needs
-
-cast-value : tie.Need-cast-value Inv-loop μ-loop
-cast-value c = search needs
-
-add-value : tie.Need-add-value Inv-loop μ-loop
-add-value c = search needs
-
-no-number-requires-4 : tie.Need-no-number-requires-4 Inv-loop μ-loop
-no-number-requires-4 c κs = search needs
-
-returns-4 : tie.Need-returns-4 Inv-loop μ-loop
-returns-4 c = search needs
+longer-requires : tie.Need-longer-requires Inv-loop μ-loop
+longer-requires c κs = search needs
 
 add-i : tie.Need-add-i Inv-loop μ-loop
 add-i c = search needs
@@ -58,11 +31,14 @@ loop-less c = search needs
 loop-again : tie.Need-loop-again Inv-loop μ-loop
 loop-again c = search needs
 
-cast-t13 : tie.Need-cast-t13 Inv-loop μ-loop
-cast-t13 c = search needs
+returns : tie.Need-returns Inv-loop μ-loop
+returns c = search needs
 
-returns-5 : tie.Need-returns-5 Inv-loop μ-loop
-returns-5 c = search needs
+cast-t12 : tie.Need-cast-t12 Inv-loop μ-loop
+cast-t12 c = search needs
+
+returns-2 : tie.Need-returns-2 Inv-loop μ-loop
+returns-2 c = search needs
 
 pub number-of-spec : {M : Type 1} → statement M
 number-of-spec =
@@ -70,21 +46,13 @@ number-of-spec =
     (tie.spec
     Inv-loop
     μ-loop
-    no-number-requires
-    returns
     loop-holds
-    shared-slice-read-b
-    no-number-requires-2
-    returns-2
-    no-number-requires-3
-    returns-3
-    mul-value
-    cast-value
-    add-value
-    no-number-requires-4
-    returns-4
+    shared-slice-read-digit
+    digit-requires
+    longer-requires
     add-i
     loop-less
     loop-again
-    cast-t13
-    returns-5)
+    returns
+    cast-t12
+    returns-2)

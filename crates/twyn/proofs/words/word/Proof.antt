@@ -5,16 +5,22 @@ use Rattle.twyn.proofs.words.word.Statement.{statement}
 use Rattle.twyn.proofs.words.word.Tie as tie
 
 abbrev Inv-loop : tie.InvT-loop
-Inv-loop line k at₀ i₀ at i = at ≤ length line
+Inv-loop line k from₀ i₀ from i = (i ≤ k) × (from ≤ length line)
 
 abbrev μ-loop : tie.MeasureT-loop
-μ-loop line k at₀ i₀ at i = k - i
+μ-loop line k from₀ i₀ from i = k - i
+
+until-requires : tie.Need-until-requires Inv-loop μ-loop
+until-requires c κs = search needs
 
 loop-holds : tie.Need-loop-holds Inv-loop μ-loop
 loop-holds c = search needs
 
-after-requires : tie.Need-after-requires Inv-loop μ-loop
-after-requires c κs = search needs
+until-requires-2 : tie.Need-until-requires-2 Inv-loop μ-loop
+until-requires-2 c κs = search needs
+
+until-requires-3 : tie.Need-until-requires-3 Inv-loop μ-loop
+until-requires-3 c κs = search needs
 
 add-i : tie.Need-add-i Inv-loop μ-loop
 add-i c = search needs
@@ -25,11 +31,8 @@ loop-less c = search needs
 loop-again : tie.Need-loop-again Inv-loop μ-loop
 loop-again c = search needs
 
-until-requires : tie.Need-until-requires Inv-loop μ-loop
-until-requires c κs = search needs
-
-until-requires-2 : tie.Need-until-requires-2 Inv-loop μ-loop
-until-requires-2 c κs = search needs
+until-requires-4 : tie.Need-until-requires-4 Inv-loop μ-loop
+until-requires-4 c κs = search needs
 
 sub-result : tie.Need-sub-result Inv-loop μ-loop
 sub-result c = search needs
@@ -49,13 +52,14 @@ word-spec =
     (tie.spec
     Inv-loop
     μ-loop
+    until-requires
     loop-holds
-    after-requires
+    until-requires-2
+    until-requires-3
     add-i
     loop-less
     loop-again
-    until-requires
-    until-requires-2
+    until-requires-4
     sub-result
     part-result-start
     part-result-end

@@ -1,0 +1,83 @@
+-- The verdict on a volume, from the verdicts on its points.
+use mathlib.Core.Path.{_≡_, refl, sym, ap}
+use mathlib.Core.Bool.{true, Bool, false}
+use mathlib.Core.List.{List}
+use Prim.Native.Nat.{ℕ}
+use native.Mathlib.Omega.{arith}
+use Rattle.lists.specs.Lists.{distinct, _and_, if_then_else_}
+use Rattle.lists.proofs.Tests.{and-left}
+use Rattle.lists.proofs.Bools.{and-false, and-true}
+use Rattle.volume.specs.declared.locate.Layout.{Layout}
+use Rattle.volume.specs.Volume.{sound1, layoutOf}
+use Rattle.volume.specs.Directory.{sound2}
+use Rattle.volume.specs.Sat.{free}
+use Rattle.volume.specs.Code.Located.{Located}
+use Rattle.volume.specs.declared.locate.Where.the-variants.{At, Nowhere}
+use Rattle.volume.proofs.Located.{places-are, located-sound}
+use Rattle.ownership.specs.Owners.{allOwned, sound5}
+use Rattle.ownership.specs.Blocks.{sound3}
+use Rattle.ownership.specs.Code.Verdict.{ownerSound, judgedOf}
+use Rattle.ownership.specs.declared.judge.Judged.the-variants.{Unsound}
+use Rattle.ownership.proofs.Verdicts.{OwnerSound, owner-by, unsound-judged}
+use Rattle.files.specs.Files.{sound4, sound}
+use Rattle.files.specs.Code.Verdict.{soundAt, checkedOf}
+use Rattle.files.proofs.SoundFacts.{Facts, facts}
+
+-- on a volume that its owners' points judge sound, all hangs on the streams
+pub owners-once : (img : List ℕ) (p : Layout) → OwnerSound img p → distinct (allOwned img) ≡ true
+unfolding sound5
+owners-once img p h = and-left _ _ (h .point5)
+
+sound-of : (a b c d e : Bool) → a and b and c and d and e ≡ (a and b and c and e) and d
+unfolding _and_
+sound-of true true true true e = sym (and-true e)
+sound-of true true true false e = sym (and-false e)
+sound-of true true false d e = refl
+sound-of true false c d e = refl
+sound-of false b c d e = refl
+
+module _ (img : List ℕ) where
+  parts : sound img ≡ (ownerSound img and sound4 img)
+  unfolding sound ownerSound
+  parts = sound-of (sound1 img) (sound2 img) (sound3 img) (sound4 img) (sound5 img)
+
+  pub judged-nowhere : judgedOf img ≡ Unsound → Nowhere ≡ soundAt img
+  unfolding soundAt _and_
+  judged-nowhere e = rw (parts, unsound-judged img e)
+
+  module _ (p : Layout) (h : OwnerSound img p) where
+    pub judged-bad : sound4 img ≡ false → Nowhere ≡ soundAt img
+    unfolding soundAt _and_
+    judged-bad e = rw (parts, owner-by img p h, e)
+
+    pub judged-good : sound4 img ≡ true → At p ≡ soundAt img
+    unfolding soundAt _and_
+    judged-good e = rw (parts, owner-by img p h, e) (ap At (places-are img p (h .located)))
+
+  -- what the places of a sound volume say
+  pub sound-places : (p : Layout) → soundAt img ≡ At p → (sound img ≡ true) × Located img p
+  unfolding soundAt
+  sound-places p e = go (sound img) refl e
+    where
+      go : (b : Bool) → sound img ≡ b → (if b then At (layoutOf img) else Nowhere) ≡ At p → (sound img ≡ true) × Located img p
+      go true h e =
+          let q : layoutOf img ≡ p = cc in
+          let F : Facts img = facts img h in
+          (h, rw q at (located-sound img (F .one)))
+      go false h e = absurd (let z : _≡_ {A = ℕ} 0 1 = cc in omega arith)
+
+  pub no-places : soundAt img ≡ Nowhere → sound img ≡ false
+  unfolding soundAt
+  no-places e = go (sound img) refl e
+    where
+      go : (b : Bool) → sound img ≡ b → (if b then At (layoutOf img) else Nowhere) ≡ Nowhere → sound img ≡ false
+      go true h e = absurd (let z : _≡_ {A = ℕ} 0 1 = cc in omega arith)
+      go false h e = h
+
+  pub checked-no : sound img ≡ false → record { sound = false; free = 0 } ≡ checkedOf img
+  unfolding checkedOf
+  checked-no h = rw h
+
+  pub checked-yes : (n : ℕ) → n ≡ free img → sound img ≡ true → record { sound = true; free = n } ≡ checkedOf img
+  unfolding checkedOf
+  checked-yes n e h = rw (h, e)

@@ -1,0 +1,3 @@
+pub mod Allocatable
+pub mod FileAllocated
+pub mod RoomFound

@@ -1,0 +1,4 @@
+pub mod ExtendedBy
+pub mod LowestFound
+pub mod LowestFree
+pub mod TakingLoops

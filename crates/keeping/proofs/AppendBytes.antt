@@ -1,0 +1,146 @@
+-- An append to bytes writes bytes: every number in the new access block fits its word.
+use mathlib.Core.List.{List, [], _∷_, _++_}
+use mathlib.Core.Path.{_≡_, ap, sym, _∙_}
+use mathlib.Core.Bool.{true, Bool, false}
+use Prim.Native.Nat.{ℕ, zero, suc, _%_, _<_, _+_, _≤_, _*_, _/_}
+use native.Mathlib.Omega.{arith}
+use lib.ListN.{length, take, drop}
+use lib.Dec.{eqb·suc-zero, eqb}
+use borrow.Author.Tests.{leb-true, ltb-true}
+use Rattle.numbers.specs.Numbers.{mostSegments, mostSectors}
+use Rattle.lists.specs.Parts.{bytes2, blanks, inSectors, sectors}
+use Rattle.lists.specs.Lists.{flat, pieces, if_then_else_, all}
+use Rattle.lists.proofs.AreBytes.{Bytes}
+use Rattle.lists.proofs.Tests.{and-left, and-right}
+use Rattle.volume.specs.Volume.{satAt, dirs, sat}
+use Rattle.volume.specs.Directory.{entryAt, unused, contiguous, start, recordLength}
+use Rattle.volume.specs.Sat.{withBits, free, putSat}
+use Rattle.volume.proofs.ByteLists.{bytes-append, bytes-blanks, bytes-bytes2, bytes-nil, bytes-take, bytes-drop, bytes-filled, bytes-sector, bytes-putSector}
+use Rattle.volume.proofs.Bits.{length-satOf}
+use Rattle.volume.proofs.BitsSet.{bytes-withBits}
+use Rattle.volume.proofs.SatChanged.{bytes-satOf}
+use Rattle.records.specs.Records.{allowed, encoded}
+use Rattle.records.proofs.RecordStreams.{allowed-small}
+use Rattle.records.proofs.LaidStream.{inside}
+use Rattle.ownership.specs.Blocks.{segStart, segLength, extended, extendedBy, segmentSound, blockOf, block, segments, pairs, blockSound}
+use Rattle.ownership.specs.Owners.{logical, allOwned}
+use Rattle.ownership.proofs.Segments.{sound-extended}
+use Rattle.files.specs.Files.{stream}
+use Rattle.files.specs.Changes.{longer, needed, newSectors, newPairs, appended}
+use Rattle.files.proofs.SoundFacts.{Facts}
+use Rattle.files.proofs.FileBytes.{bytes-stream, bytes-laid}
+use Rattle.files.proofs.SequentialFile.{block-sound}
+use Rattle.files.proofs.taking.LowestFree.{below-few}
+use Rattle.files.proofs.appending.OwnersJoined.{inside-table}
+use Rattle.files.proofs.appending.GrownBlock.{grownBlock, new-inside, grown-inside, grown-distinct, length-grown, grown-holds}
+
+-- of a join that is bytes, each side is
+bytes-left : (a b : List ℕ) → Bytes (a ++ b) → Bytes a
+bytes-left [] b h i = omega arith
+bytes-left (x ∷ a) b h zero = h 0
+bytes-left (x ∷ a) b h (suc i) = bytes-left a b (λ j. h (suc j)) i
+
+bytes-right : (a b : List ℕ) → Bytes (a ++ b) → Bytes b
+bytes-right [] b h i = h i
+bytes-right (x ∷ a) b h i = bytes-right a b (λ j. h (suc j)) i
+
+-- a record in the stream
+pub bytes-encoded : (l : ℕ) (r : List ℕ) → allowed l r ≡ true → Bytes r → Bytes (encoded l r)
+unfolding encoded
+bytes-encoded zero r a h =
+    bytes-append (bytes2 (length r)) (r ++ blanks (length r % 2)) (bytes-bytes2 (length r) (omega (arith, allowed-small 0 r a)))
+    (bytes-append r (blanks (length r % 2)) h (bytes-blanks (length r % 2)))
+bytes-encoded (suc l) r a h = rw (eqb·suc-zero l) h
+
+-- the pairs of an access block, one after the other
+joined : List (List ℕ) → List ℕ
+joined ps = flat (λ p. p) ps
+
+bytes-pair : (s n : ℕ) → s < 65536 → n < 65536 → Bytes (bytes2 s ++ bytes2 n)
+bytes-pair s n hs hn = bytes-append (bytes2 s) (bytes2 n) (bytes-bytes2 s hs) (bytes-bytes2 n hn)
+
+bytes-pieces : (k : ℕ) (l : List ℕ) → Bytes l → Bytes (joined (pieces k 4 l))
+unfolding joined flat pieces
+bytes-pieces zero l h = bytes-nil
+bytes-pieces (suc k) l h = bytes-append (take 4 l) (joined (pieces k 4 (drop 4 l))) (bytes-take 4 l h) (bytes-pieces k (drop 4 l) (bytes-drop 4 l h))
+
+module _ (t : ℕ) (small : t ≤ mostSectors) where
+  pair-low : (p : List ℕ) → segmentSound t p ≡ true → segStart p + segLength p ≤ t
+  unfolding segmentSound
+  pair-low p h = leb-true _ _ (and-right _ _ h)
+
+  bytes-extended : (ps : List (List ℕ)) (s : ℕ) → s < t → all (segmentSound t) ps ≡ true → Bytes (joined ps) → Bytes (joined (extended ps s))
+  unfolding joined flat extended all
+  bytes-extended [] s hs g h = bytes-append (bytes2 s ++ bytes2 1) [] (bytes-pair s 1 (omega arith) (omega arith)) bytes-nil
+  bytes-extended (p ∷ []) s hs g h = go (eqb (segStart p + segLength p) s)
+    where
+      go : (b : Bool) → Bytes (flat (λ q. q) (if b then (bytes2 (segStart p) ++ bytes2 (segLength p + 1)) ∷ [] else p ∷ (bytes2 s ++ bytes2 1) ∷ []))
+      go true =
+          let l : segStart p + segLength p ≤ t = pair-low p (and-left _ _ g) in
+          bytes-append (bytes2 (segStart p) ++ bytes2 (segLength p + 1)) [] (bytes-pair (segStart p) (segLength p + 1) (omega arith) (omega arith)) bytes-nil
+      go false = bytes-append p ((bytes2 s ++ bytes2 1) ++ []) (bytes-left p [] h) (bytes-append (bytes2 s ++ bytes2 1) [] (bytes-pair s 1 (omega arith) (omega arith)) bytes-nil)
+  bytes-extended (p ∷ q ∷ ps) s hs g h =
+      bytes-append p (joined (extended (q ∷ ps) s)) (bytes-left p (joined (q ∷ ps)) h)
+      (bytes-extended (q ∷ ps) s hs (and-right _ _ g) (bytes-right p (joined (q ∷ ps)) h))
+
+  bytes-extendedBy : (ps : List (List ℕ)) (ss : List ℕ) → inside t ss ≡ true → all (segmentSound t) ps ≡ true → Bytes (joined ps) → Bytes (joined (extendedBy ps ss))
+  unfolding extendedBy all
+  bytes-extendedBy ps [] i g h = h
+  bytes-extendedBy ps (s ∷ ss) i g h =
+      let l : s < t = ltb-true s t (and-left _ _ i) in
+      bytes-extendedBy (extended ps s) ss (and-right _ _ i) (sound-extended t ps s l g) (bytes-extended ps s l g h)
+
+bytes-blockOf : (ps : List (List ℕ)) (n e : ℕ) → length ps < 65536 → n < 65536 → e < 65536 * 65536 → Bytes (joined ps) → Bytes (blockOf ps n e)
+unfolding blockOf joined
+bytes-blockOf ps n e hp hn he h =
+    let m : ℕ = e / 65536 in
+    let l : ℕ = e % 65536 in
+    bytes-filled 256 (bytes2 (length ps) ++ (bytes2 n ++ (bytes2 m ++ (bytes2 l ++ flat (λ p. p) ps))))
+    (bytes-append (bytes2 (length ps)) (bytes2 n ++ (bytes2 m ++ (bytes2 l ++ flat (λ p. p) ps))) (bytes-bytes2 (length ps) hp)
+    (bytes-append (bytes2 n) (bytes2 m ++ (bytes2 l ++ flat (λ p. p) ps)) (bytes-bytes2 n hn)
+    (bytes-append (bytes2 m) (bytes2 l ++ flat (λ p. p) ps) (bytes-bytes2 m (omega arith))
+    (bytes-append (bytes2 l) (flat (λ p. p) ps) (bytes-bytes2 l (omega arith)) h))))
+
+module _ (v : List ℕ) (F : Facts v) (k : ℕ) (hk : k < 8 * dirs v) (used : unused (entryAt v k) ≡ false) (seq : contiguous (entryAt v k) ≡ false)
+    (r : List ℕ) (fine : allowed (recordLength (entryAt v k)) r ≡ true) (enough : needed v (entryAt v k) r ≤ free v)
+    (few : length (newPairs v (entryAt v k) r) ≤ mostSegments) where
+  abbrev e : List ℕ
+  e = entryAt v k
+
+  -- "T sectors, 16 to 2,048": so many at most hold a stream
+  pub grown-few : inSectors (length (longer v (entryAt v k) r)) ≤ sectors v
+  grown-few =
+      rw (sym (length-grown v F k hk used seq r enough))
+      (below-few (sectors v) (logical v e ++ newSectors v e r) (grown-distinct v F k hk used seq r) (grown-inside v F k hk used seq r))
+
+  pub grown-short : length (longer v (entryAt v k) r) ≤ 256 * sectors v
+  grown-short = omega (arith, grown-few, grown-holds v F k hk used seq r enough, length-grown v F k hk used seq r enough)
+
+  module _ (bytes : Bytes v) (bytes-r : Bytes r) where
+    bytes-longer : Bytes (longer v e r)
+    unfolding longer
+    bytes-longer = bytes-append (stream v e) (encoded (recordLength e) r) (bytes-stream v e bytes) (bytes-encoded (recordLength e) r fine bytes-r)
+
+    bytes-pairs : Bytes (joined (newPairs v e r))
+    unfolding newPairs pairs block blockSound
+    bytes-pairs =
+        bytes-extendedBy (sectors v) (F .high) (pairs (block v e)) (newSectors v e r) (new-inside v F k hk used seq r)
+        (and-right _ _ (and-left _ _ (and-left _ _ (block-sound v F k hk used seq))))
+        (bytes-pieces (segments (block v e)) (drop 8 (block v e)) (bytes-drop 8 (block v e) (bytes-sector (start e) v bytes)))
+
+    bytes-grown : Bytes (grownBlock v e r)
+    bytes-grown =
+        bytes-blockOf (newPairs v e r) (inSectors (length (longer v e r))) (length (longer v e r))
+        (omega arith) (omega (arith, grown-few, F .high)) (omega (arith, grown-short, F .high)) bytes-pairs
+
+    bytes-sat : Bytes (withBits 1 (sat v) (newSectors v e r))
+    bytes-sat =
+        bytes-withBits 1 (sat v) (newSectors v e r) (omega arith) (rw (F .sat-right) (bytes-satOf (sectors v) (allOwned v)))
+        (ap length (F .sat-right) ∙ length-satOf (sectors v) (allOwned v)) (inside-table (sectors v) (newSectors v e r) (F .high) (new-inside v F k hk used seq r))
+
+    pub bytes-appended : Bytes (appended (entryAt v k) r v)
+    unfolding appended putSat
+    bytes-appended =
+        bytes-putSector (start e) (grownBlock v e r) _ bytes-grown
+        (bytes-putSector (satAt v) (withBits 1 (sat v) (newSectors v e r)) _ bytes-sat
+        (bytes-laid (logical v e ++ newSectors v e r) (longer v e r) v bytes-longer bytes))

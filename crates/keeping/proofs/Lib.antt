@@ -1,0 +1,9 @@
+pub mod AllocateKeeps
+pub mod AppendBytes
+pub mod AppendKeeps
+pub mod DeleteKeeps
+pub mod FormatSound
+pub mod OverwriteKeeps
+pub mod RecordsSame
+pub mod SlotFound
+pub mod SlotWritten

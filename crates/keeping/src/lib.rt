@@ -1,0 +1,1 @@
+// No function: what each change of a volume keeps. Laws that only `promises` cites.

@@ -1,0 +1,16 @@
+pub mod AreBytes
+pub mod Blanks
+pub mod Bools
+pub mod FirstFound
+pub mod IndexFound
+pub mod JoinedLists
+pub mod Keeps
+pub mod LentParts
+pub mod Lists
+pub mod Pieces
+pub mod Puts
+pub mod RangeParts
+pub mod Ranges
+pub mod Replaced
+pub mod Tests
+pub mod Walks

@@ -1,0 +1,56 @@
+-- Bytes, words, sectors and other parts of an image.
+use mathlib.Core.List.{List, [], _∷_, _++_}
+use mathlib.Core.Bool.{Bool}
+use Prim.Native.Nat.{ℕ, _+_, _*_, _/_, _%_, _-_}
+use lib.ListN.{getD, take, drop, length, replicate}
+use lib.Dec.{eqb}
+use Rattle.lists.specs.Lists.{all}
+
+-- the byte at i; "words are big-endian"; the two bytes of a word
+abbrev pub byte : List ℕ → ℕ → ℕ
+byte b i = getD b i 0
+
+abbrev pub word : List ℕ → ℕ → ℕ
+word b i = 256 * byte b i + byte b (i + 1)
+
+abbrev pub bytes2 : ℕ → List ℕ
+bytes2 w = w / 256 ∷ w % 256 ∷ []
+
+-- n bytes from i on; the same list with b written at i; its first bytes replaced by b
+unfoldable pub part : ℕ → ℕ → List ℕ → List ℕ
+part i n b = take n (drop i b)
+
+unfoldable pub put : ℕ → List ℕ → List ℕ → List ℕ
+put i b img = take i img ++ (b ++ drop (i + length b) img)
+
+unfoldable pub over : List ℕ → List ℕ → List ℕ
+over b old = b ++ drop (length b) old
+
+-- "the 256-byte part of the image that starts at 256 times the sector number", read and written
+unfoldable pub sector : ℕ → List ℕ → List ℕ
+sector s img = part (256 * s) 256 img
+
+unfoldable pub putSector : ℕ → List ℕ → List ℕ → List ℕ
+putSector s b img = put (256 * s) b img
+
+-- n zeros; b with zeros after it, n bytes in all
+unfoldable pub blanks : ℕ → List ℕ
+blanks n = replicate n 0
+
+unfoldable pub filled : ℕ → List ℕ → List ℕ
+filled n b = b ++ blanks (n - length b)
+
+-- n bytes in sectors, rounded up
+unfoldable pub inSectors : ℕ → ℕ
+inSectors n = (n + 255) / 256
+
+abbrev pub zeros : List ℕ → Bool
+zeros = all (λ x. eqb x 0)
+
+-- "T sectors"; "sector T-1, the trailer"
+unfoldable pub sectors : List ℕ → ℕ
+sectors img = length img / 256
+
+unfoldable pub parts-open : Unit {0}
+unfolding part put over sector putSector blanks filled inSectors sectors
+parts-open = tt

@@ -1,0 +1,35 @@
+-- Whether a desk fits, in the parts that the code judges one after the other; each part's place in `fits` is a law of proofs/.
+use mathlib.Core.Bool.{Bool, not, true}
+use mathlib.Core.List.{List}
+use Prim.Native.Nat.{ℕ, _+_}
+use lib.Dec.{leb, eqb, ltb}
+use Rattle.numbers.specs.Numbers.{lastUser, mostMoved}
+use Rattle.lists.specs.Lists.{_and_, _or_, if_then_else_}
+use Rattle.volume.specs.Directory.{entryAt, unused, owner}
+use Rattle.files.specs.Rights.{hasRight}
+use Rattle.files.specs.Files.{extent}
+use Rattle.luns.specs.declared.Lun.{Lun}
+use Rattle.luns.specs.Modes.{writes}
+use Rattle.luns.specs.Luns.{placeExists}
+use Rattle.luns.specs.declared.Place.{Place}
+use Rattle.luns.specs.declared.Place.the-variants.{Fresh, At}
+
+-- a held LUN's slot is in use, its user in range, and a writer has the right
+unfoldable pub seated : List ℕ → Lun → Bool
+seated img u =
+    not (u .held)
+    or not (unused (entryAt img (u .slot))) and leb (u .user) lastUser
+    and (not (writes (u .mode)) or hasRight (u .user) (owner (entryAt img (u .slot))))
+
+-- a held LUN's place exists
+unfoldable pub stands : List ℕ → Lun → Bool
+stands img u = not (u .held) or placeExists img (entryAt img (u .slot)) (u .place)
+
+-- a place in a file of that many records, or sectors if it is contiguous
+unfoldable pub placeWithin : Bool → ℕ → Place → Bool
+placeWithin con n Fresh = true
+placeWithin con n (At i m) = if con then leb 1 m and leb m mostMoved and leb (i + m) n else eqb m 1 and ltb i n
+
+-- how far a held LUN's file goes
+unfoldable pub reach : List ℕ → Lun → ℕ
+reach img u = if u .held then extent img (entryAt img (u .slot)) else 0

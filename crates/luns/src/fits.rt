@@ -1,0 +1,155 @@
+// Whether a desk fits a sound volume. Slots, users and rights come first, since they cost little; a held file's records are counted
+// once, whatever number of LUNs holds it.
+ghost use mathlib.Core.Path.{_≡_};
+ghost use mathlib.Core.Bool.{true, not};
+ghost use Prim.Native.Nat.{ℕ, _<_};
+ghost use lib.ListN.{length, getD};
+ghost use lib.Dec.{leb};
+ghost use Rattle.lists.specs.Lists.{_and_, _or_, all};
+ghost use Rattle.numbers.specs.Numbers.{lunCount, lastUser};
+ghost use Rattle.volume.specs.Directory.{unused, owner};
+ghost use Rattle.volume.specs.Code.Located.{Located};
+ghost use Rattle.files.specs.Files.{sound};
+ghost use Rattle.files.specs.Rights.{hasRight};
+ghost use Rattle.luns.specs.Luns.{freeLun, fits};
+ghost use Rattle.luns.specs.Code.Fits.{seated, stands, placeWithin, reach};
+use crate::Lun;
+use crate::Place;
+use crate::holding::all_agree;
+use files::extent::extent_of;
+use files::rights::has_right;
+use numbers::LAST_USER;
+use numbers::LUNS;
+use numbers::MOST_MOVED;
+use volume::directory::contiguous;
+use volume::directory::entry_of;
+use volume::directory::owner;
+use volume::directory::unused;
+use volume::locate::Layout;
+
+// Whether the user may hold the file of this entry, to write if it is a writer.
+fn may_hold(e: &[u8], user: u32, writes: bool) -> bool
+    requires { ⌜ length (now e) ≡ 32 ⌝ }
+    ensures { λ r. ⌜ r ≡ not (unused (now (e .entry))) and leb user lastUser and (not writes or hasRight user (owner (now (e .entry)))) ⌝ }
+{
+    let its = owner(e) as u32;
+    !unused(e) & (user <= LAST_USER) & (!writes | has_right(user, its))
+}
+
+// A free LUN, or one whose slot is in use, whose user is in range and that writes with the right to it.
+fn seated(image: &[u8], p: Layout, u: Lun) -> bool
+    requires { ⌜ Located (now image) p ⌝ }
+    ensures { λ r. ⌜ r ≡ seated (now (image .entry)) u ⌝ }
+{
+    if !u.held {
+        return true;
+    }
+    let slot = u.slot as usize;
+    if 8 * p.dirs <= slot {
+        return false;
+    }
+    let mode = u.mode;
+    may_hold(entry_of(image, p, slot), u.user, mode.writes())
+}
+
+fn all_seated(image: &[u8], p: Layout, luns: [Lun; LUNS]) -> bool
+    requires { ⌜ Located (now image) p ⌝ }
+    ensures { λ r. ⌜ r ≡ all (seated (now (image .entry))) luns ⌝ }
+{
+    let mut j: usize = 0;
+    while j < LUNS {
+        let u = luns[j];
+        if !seated(image, p, u) {
+            return false;
+        }
+        j += 1;
+    }
+    true
+}
+
+// Whether i with m moved is a place in a file of n records, or sectors if it is contiguous.
+fn within(contiguous: bool, n: usize, i: u32, m: u32) -> bool
+    ensures { λ r. ⌜ r ≡ placeWithin contiguous n (Place.At i m) ⌝ }
+{
+    let from = i as usize;
+    if contiguous {
+        return (1 <= m) & (m as usize <= MOST_MOVED) & (from + m as usize <= n);
+    }
+    (m == 1) & (from < n)
+}
+
+fn place_within(contiguous: bool, n: usize, place: Place) -> bool
+    ensures { λ r. ⌜ r ≡ placeWithin contiguous n place ⌝ }
+{
+    match place {
+        Place::Fresh => true,
+        Place::At { i, n: m } => within(contiguous, n, i, m),
+    }
+}
+
+// A free LUN, or one whose place exists in its file, which goes as far as n.
+fn stands(image: &[u8], p: Layout, u: Lun, n: usize) -> bool
+    requires { ⌜ Located (now image) p × (seated (now image) u ≡ true) × (n ≡ reach (now image) u) ⌝ }
+    ensures { λ r. ⌜ r ≡ stands (now (image .entry)) u ⌝ }
+{
+    if !u.held {
+        return true;
+    }
+    let slot = u.slot as usize;
+    let place = u.place;
+    place_within(contiguous(entry_of(image, p, slot)), n, place)
+}
+
+// How far the file of LUN j goes: known from an earlier LUN that holds it, or found.
+fn reach(image: &[u8], p: Layout, luns: [Lun; LUNS], known: [usize; LUNS], j: usize) -> usize
+    requires { ⌜ Located (now image) p × (sound (now image) ≡ true) × (all (seated (now image)) luns ≡ true) × (j < lunCount)
+        × ((k : ℕ) → k < j → getD known k 0 ≡ reach (now image) (getD luns k freeLun)) ⌝ }
+    ensures { λ r. ⌜ r ≡ reach (now (image .entry)) (getD luns j freeLun) ⌝ }
+{
+    let u = luns[j];
+    if !u.held {
+        return 0;
+    }
+    let slot = u.slot;
+    let mut k: usize = 0;
+    while k < j {
+        let v = luns[k];
+        if v.holds(slot) {
+            return known[k];
+        }
+        k += 1;
+    }
+    extent_of(image, p, slot as usize)
+}
+
+fn all_stand(image: &[u8], p: Layout, luns: [Lun; LUNS]) -> bool
+    requires { ⌜ Located (now image) p × (sound (now image) ≡ true) × (all (seated (now image)) luns ≡ true) ⌝ }
+    ensures { λ r. ⌜ r ≡ all (stands (now (image .entry))) luns ⌝ }
+{
+    let mut known = [0usize; LUNS];
+    let mut j: usize = 0;
+    while j < LUNS {
+        let n = reach(image, p, luns, known, j);
+        let u = luns[j];
+        if !stands(image, p, u, n) {
+            return false;
+        }
+        known[j] = n;
+        j += 1;
+    }
+    true
+}
+
+/// Whether the desk fits a sound volume: slots in use, users in range, writers with the right, modes that agree, places that exist.
+pub fn fits(image: &[u8], p: Layout, luns: [Lun; LUNS]) -> bool
+    requires { ⌜ Located (now image) p × (sound (now image) ≡ true) ⌝ }
+    ensures { λ r. ⌜ r ≡ fits (now (image .entry)) luns ⌝ }
+{
+    if !all_seated(image, p, luns) {
+        return false;
+    }
+    if !all_agree(luns) {
+        return false;
+    }
+    all_stand(image, p, luns)
+}

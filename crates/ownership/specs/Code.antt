@@ -1,0 +1,4 @@
+pub mod Claims
+pub mod Held
+pub mod Shapes
+pub mod Verdict

@@ -1,0 +1,120 @@
+-- What every call keeps, in one record; and that a call keeps it which changes the desk alone, one file, or units of one file.
+use mathlib.Core.Path.{_≡_, refl, sym, subst, _∙_}
+use mathlib.Core.Bool.{false, true, true≢false}
+use mathlib.Core.List.{List}
+use mathlib.Core.Logic.{_≢_, _⊎_, inl, inr}
+use Prim.Native.Nat.{ℕ, _<_, _+_, _≤_}
+use native.Mathlib.Decide.{ℕ-discrete, decLt}
+use native.Mathlib.Omega.{arith}
+use borrow.Author.Tests.{eq-eqb, le-leb, lt-ltb}
+use Rattle.lists.proofs.Tests.{both-true}
+use Rattle.volume.specs.Directory.{entryAt}
+use Rattle.files.specs.Files.{extent, sound}
+use Rattle.files.proofs.OneFileChanged.{Changed, entry-other, file-other, entry-here}
+use Rattle.keeping.proofs.RecordsSame.{records-same}
+use Rattle.luns.specs.declared.Place.the-variants.{At}
+use Rattle.luns.specs.Luns.{placeExists, movedTo}
+use Rattle.luns.proofs.Fitting.{Fitting, fits-is}
+use Rattle.work.specs.Transfers.{Moving}
+use Rattle.desk.specs.Desk.{State, state, lunAt, putLun}
+use Rattle.desk.specs.Calls.{Touch, after, Units}
+use Rattle.desk.specs.declared.Desk.{Desk}
+use Rattle.desk.proofs.DeskFitting.{moved-fitting}
+use Rattle.promises.specs.Touches.{changes, ends}
+use Rattle.promises.specs.Sectors.{Bytes, Good, File, SameFile}
+use Rattle.promises.specs.Lasting.{Lasting}
+use Rattle.promises.specs.Contents.{unitOf, slotHeld}
+use Rattle.promises.proofs.Units.{same-file, lasting-image, lasting-same, lasting-by}
+use Rattle.promises.proofs.Held.{entryOf, Held, grown-fitting}
+
+-- From s to t, by a call that was sent bs and touches w: t is good, files outside w are the same, units outside w hold what they held
+pub record Preserves (bs : List ℕ) (w : Touch) (s t : State) : Type 0 where
+  pub good : Bytes bs → Good t
+  pub others : (k : ℕ) → File s k → changes w k ≡ false → SameFile s t k
+  pub units : (k i : ℕ) → File s k → i < extent (s .image) (entryAt (s .image) k) → ends w k i ≡ false → Lasting s t k i
+
+-- the image stays
+pub preserves-desk : (bs : List ℕ) (w : Touch) (s : State) (d : Desk) → Good s → Fitting (s .image) (d .luns) → Preserves bs w s (state (s .image) d)
+preserves-desk bs w s d g f = record {
+  good = λ b. record { is-sound = g .is-sound; is-fitting = fits-is (s .image) (d .luns) f; is-bytes = g .is-bytes };
+  others = λ k file h. same-file s (state (s .image) d) k refl;
+  units = λ k i file l h. lasting-image s (state (s .image) d) k i refl l;
+}
+
+-- one slot's file changes
+module _ (s t : State) (j : ℕ) (e ws : List ℕ) (C : Changed (s .image) (t .image) j e ws) where
+  same-other : (k : ℕ) → File s k → k ≢ j → SameFile s t k
+  same-other k f n =
+      let S = file-other (s .image) (t .image) j e ws C k (f .slot) n (f .used) in
+      record {
+        entry-same = entry-other (s .image) (t .image) j e ws C k n;
+        places-same = S .logical-same;
+        bytes-same = S .stored-same;
+        records-same = records-same (s .image) (t .image) (entryAt (s .image) k) S (f .used);
+      }
+
+  pub preserves-change : (bs : List ℕ) (w : Touch) → (Bytes bs → Good t) → ((k : ℕ) → File s k → changes w k ≡ false → k ≢ j)
+      → ((i : ℕ) → File s j → i < extent (s .image) (entryAt (s .image) j) → ends w j i ≡ false → Lasting s t j i) → Preserves bs w s t
+  preserves-change bs w g apart here = record {
+    good = g;
+    others = λ k f h. same-other k f (apart k f h);
+    units = λ k i. elim (ℕ-discrete k j) [
+      | yes p ↦ subst (λ (m : ℕ). File s m → i < extent (s .image) (entryAt (s .image) m) → ends w m i ≡ false → Lasting s t m i) (sym p) (here i)
+      | no n ↦ λ f l h. lasting-same s t k i (same-other k f n) l
+    ];
+  }
+
+-- A transfer to the file behind a LUN: what it makes of the volume, where it touches n units from i on
+pub record Rewrites (s : State) (lun : ℕ) (bs v′ : List ℕ) (i n : ℕ) : Type 0 where
+  pub ws : List ℕ
+  pub changed : Changed (s .image) v′ (slotHeld s lun) (entryOf s lun) ws
+  pub is-sound : sound v′ ≡ true
+  pub are-bytes : Bytes bs → Bytes v′
+  pub as-long : extent (s .image) (entryOf s lun) ≤ extent v′ (entryOf s lun)
+  pub place : placeExists v′ (entryOf s lun) (At i n) ≡ true
+  pub elsewhere : (u : ℕ) → u < extent (s .image) (entryOf s lun) → (u + 1 ≤ i) ⊎ (i + n ≤ u)
+      → unitOf v′ (entryOf s lun) u ≡ unitOf (s .image) (entryOf s lun) u
+
+-- the state after it: the LUN has moved; and the state after a transfer that moves m
+abbrev pub movedOn : State → ℕ → List ℕ → ℕ → ℕ → State
+movedOn s lun v′ i n = state v′ (putLun (s .desk) lun (movedTo (At i n) (lunAt (s .desk) lun)))
+
+abbrev pub transferredTo : State → ℕ → Moving → State
+transferredTo s lun m = state (m .image) (after (s .desk) lun m)
+
+-- what it says that a touch does not end a unit
+off-slot : (j i n k : ℕ) → changes (Units j i n) k ≡ false → k ≢ j
+unfolding changes
+off-slot j i n k h p = true≢false (sym (eq-eqb j k (sym p)) ∙ h)
+
+off-units : (j i n u : ℕ) → ends (Units j i n) j u ≡ false → (u + 1 ≤ i) ⊎ (i + n ≤ u)
+unfolding ends
+off-units j i n u h = elim (decLt u i) [
+  | yes l ↦ inl (omega arith)
+  | no g ↦ elim (decLt u (i + n)) [
+    | yes l ↦
+        absurd (true≢false (sym (both-true _ _ (both-true _ _ (eq-eqb j j refl) (le-leb i u (omega arith))) (lt-ltb u (i + n) l)) ∙ h))
+    | no f ↦ inr (omega arith)
+  ]
+]
+
+module _ (s : State) (lun : ℕ) (bs v′ : List ℕ) (i n : ℕ) (H : Held s lun) (R : Rewrites s lun bs v′ i n) where
+  same-entry : entryAt v′ (slotHeld s lun) ≡ entryOf s lun
+  same-entry = entry-here (s .image) v′ (slotHeld s lun) (entryOf s lun) (R .ws) (R .changed)
+
+  good-after : Bytes bs → Good (movedOn s lun v′ i n)
+  good-after b =
+      let f = grown-fitting (s .image) v′ (slotHeld s lun) (R .ws) (R .changed) (R .as-long) (s .desk .luns) (H .fits-of) in
+      record {
+        is-sound = R .is-sound;
+        is-fitting = fits-is v′ _ (moved-fitting v′ (s .desk) lun (At i n) (H .lun-in) (H .is-held) (rw same-entry (R .place)) f);
+        is-bytes = R .are-bytes b;
+      }
+
+  pub preserves-rewrite : Preserves bs (Units (slotHeld s lun) i n) s (movedOn s lun v′ i n)
+  preserves-rewrite =
+      preserves-change s (movedOn s lun v′ i n) (slotHeld s lun) (entryOf s lun) (R .ws) (R .changed) bs (Units (slotHeld s lun) i n) good-after
+      (λ k f h. off-slot (slotHeld s lun) i n k h)
+      (λ u f l h.
+      lasting-by s (movedOn s lun v′ i n) (slotHeld s lun) u same-entry (omega (arith, R .as-long))
+      (R .elsewhere u l (off-units (slotHeld s lun) i n u h)))

@@ -1,0 +1,111 @@
+-- Assign, close and rewind: the image stays, and the LUN that each puts fits.
+use mathlib.Core.Path.{_≡_, refl, ap, _∙_, sym}
+use mathlib.Core.Bool.{true, false, Bool, not, true≢false}
+use mathlib.Core.List.{List}
+use Prim.Native.Nat.{ℕ, _-_, _≤_, _+_, _*_}
+use native.Mathlib.Omega.{arith}
+use lib.Dec.{leb}
+use lib.ListN.{getD, take, drop}
+use lib.Seq.{getD-take, getD-drop}
+use borrow.Author.Tests.{leb-true}
+use Rattle.lists.specs.Lists.{_and_, if_then_else_, _or_}
+use Rattle.lists.specs.Parts.{part}
+use Rattle.lists.proofs.Tests.{and-right, and-left}
+use Rattle.lists.proofs.Lists.{same-true}
+use Rattle.volume.specs.Names.{userOf}
+use Rattle.volume.specs.Directory.{entryAt, contiguous, named, described, owner}
+use Rattle.files.specs.Files.{extent}
+use Rattle.files.specs.Rights.{hasRight}
+use Rattle.files.proofs.UsedSlots.{named-used}
+use Rattle.keeping.proofs.SlotFound.{slot-holds}
+use Rattle.luns.specs.declared.Place.the-variants.{Fresh, At}
+use Rattle.luns.specs.Luns.{placeExists, freeLun, movedTo}
+use Rattle.luns.specs.declared.Mode.{Mode}
+use Rattle.luns.specs.Modes.{writes, modeOf}
+use Rattle.luns.proofs.Fitting.{fitting, free-fits, all-agree-free, Fitted, fitted-lun}
+use Rattle.work.specs.Volumes.{slotOf, exists}
+use Rattle.desk.specs.Desk.{State, state, putLun, lunAt, mine, spare}
+use Rattle.desk.specs.Calls.{Nothing, startOf, seatOf, newLun}
+use Rattle.desk.proofs.DeskFitting.{put-fitting, moved-fitting}
+use Rattle.promises.specs.Sectors.{Good}
+use Rattle.promises.proofs.Preserving.{Preserves, preserves-desk}
+use Rattle.promises.proofs.Told.{BeginTold, AssignTold}
+use Rattle.promises.proofs.Held.{Held, held-by}
+use Rattle.promises.proofs.Units.{extent-run}
+use Rattle.promises.proofs.PlacesExist.{place-run, place-one}
+
+fresh-exists : (v e : List ℕ) → placeExists v e Fresh ≡ true
+unfolding placeExists
+fresh-exists v e = refl
+
+-- Close and rewind
+free-is : freeLun .held ≡ false
+unfolding freeLun
+free-is = refl
+
+pub preserves-close : (bs : List ℕ) (lun : ℕ) (s : State) → Good s → Preserves bs Nothing s (state (s .image) (putLun (s .desk) lun freeLun))
+preserves-close bs lun s g =
+    preserves-desk bs Nothing s (putLun (s .desk) lun freeLun) g
+    (put-fitting (s .image) (s .desk) lun freeLun (free-fits (s .image)) (all-agree-free freeLun (s .desk .luns) free-is)
+    (fitting (s .image) (s .desk .luns) (g .is-fitting)))
+
+pub preserves-rewind : (bs : List ℕ) (caller lun : ℕ) (s : State) → Good s → BeginTold s (mine (s .desk) caller lun)
+    → Preserves bs Nothing s (state (s .image) (putLun (s .desk) lun (movedTo Fresh (lunAt (s .desk) lun))))
+preserves-rewind bs caller lun s g T =
+    let H : Held s lun = held-by s caller lun g (T .is-fine) in
+    preserves-desk bs Nothing s (putLun (s .desk) lun (movedTo Fresh (lunAt (s .desk) lun))) g
+    (moved-fitting (s .image) (s .desk) lun Fresh (H .lun-in) (H .is-held) (fresh-exists (s .image) (entryAt (s .image) (lunAt (s .desk) lun .slot))) (H .fits-of))
+
+-- Assign: the place that a LUN starts at exists
+last-exists : (v e : List ℕ) → 1 ≤ extent v e → placeExists v e (At (extent v e - 1) 1) ≡ true
+last-exists v e h = go (contiguous e) refl
+  where
+    go : (b : Bool) → contiguous e ≡ b → placeExists v e (At (extent v e - 1) 1) ≡ true
+    go true q = place-run v e (extent v e - 1) 1 q (omega arith) (omega arith) (omega (arith, extent-run v e q))
+    go false q = place-one v e (extent v e - 1) q (omega arith)
+
+start-exists : (v e : List ℕ) (m : Mode) (end : Bool) → placeExists v e (startOf v e m end) ≡ true
+unfolding startOf
+start-exists v e m end = go (end and writes m and leb 1 (extent v e)) refl
+  where
+    go : (b : Bool) → (end and writes m and leb 1 (extent v e)) ≡ b
+        → placeExists v e (if end and writes m and leb 1 (extent v e) then At (extent v e - 1) 1 else Fresh) ≡ true
+    go true q = let h : 1 ≤ extent v e = leb-true _ _ (and-right _ _ q) in rw q (last-exists v e h)
+    go false q = rw q (fresh-exists v e)
+
+-- the user of a descriptor is the owner of the file that it names
+desc-owner : (desc e : List ℕ) → named desc e ≡ true → userOf desc ≡ owner e
+unfolding named described part
+desc-owner desc e h =
+    let q : desc ≡ take 20 (drop 2 e) = same-true _ _ h in
+    let a : getD (take 20 (drop 2 e)) 0 0 ≡ getD e 2 0 = getD-take 20 (drop 2 e) 0 0 (omega arith) ∙ getD-drop 2 e 0 0 in
+    let b : getD (take 20 (drop 2 e)) 1 0 ≡ getD e 3 0 = getD-take 20 (drop 2 e) 1 0 (omega arith) ∙ getD-drop 2 e 1 0 in
+    ap (λ (d : List ℕ). 256 * getD d 0 0 + getD d 1 0) q ∙ rw (a, b)
+
+right-of : (w h : Bool) → (w and not h) ≡ false → not w or h ≡ true
+unfolding _and_ _or_
+right-of true true e = refl
+right-of true false e = absurd (true≢false e)
+right-of false h e = refl
+
+-- the new LUN fits, and agrees with all
+module _ (caller lun : ℕ) (desc : List ℕ) (mode : ℕ) (end : Bool) (s : State) (g : Good s) (T : AssignTold s caller lun desc mode end) where
+  named-there : named desc (entryAt (s .image) (slotOf (s .image) desc)) ≡ true
+  unfolding slotOf exists
+  named-there = slot-holds (s .image) (named desc) (T .named-file .found)
+
+  new-fitted : Fitted (s .image) (newLun (s .image) caller desc mode end)
+  unfolding newLun seatOf spare
+  new-fitted =
+      let e : List ℕ = entryAt (s .image) (slotOf (s .image) desc) in
+      record {
+        used = named-used desc e (T .named-file .described) named-there;
+        user-in = leb-true _ _ (and-left _ _ (and-left _ _ (T .is-spare)));
+        right = rw (sym (desc-owner desc e named-there)) (right-of (writes (modeOf mode)) (hasRight caller (userOf desc)) (T .right));
+        place = start-exists (s .image) e (modeOf mode) end;
+      }
+
+  pub preserves-assign : Preserves desc Nothing s (state (s .image) (putLun (s .desk) lun (newLun (s .image) caller desc mode end)))
+  preserves-assign =
+      preserves-desk desc Nothing s _ g
+      (put-fitting (s .image) (s .desk) lun _ (fitted-lun (s .image) _ (λ h. new-fitted)) (T .agreed) (fitting (s .image) (s .desk .luns) (g .is-fitting)))

@@ -1,0 +1,60 @@
+-- "What a reader may conclude from each statement": hollow programs that the statements shut out, and check's count.
+use mathlib.Core.Path.{_≡_}
+use mathlib.Core.Logic.{_↔_}
+use mathlib.Core.Bool.{false, true}
+use mathlib.Core.List.{List, []}
+use Prim.Native.Nat.{ℕ, _+_, _*_, _≤_}
+use lib.ListN.{length}
+use Rattle.lists.specs.Parts.{put}
+use Rattle.lists.specs.Lists.{if_then_else_}
+use Rattle.volume.specs.Directory.{start, contiguous}
+use Rattle.volume.specs.Sat.{free}
+use Rattle.files.specs.Files.{extent, sound}
+use Rattle.work.specs.declared.Refusal.{Refusal}
+use Rattle.desk.specs.Desk.{State, fileOf}
+use Rattle.desk.specs.Answers.{Outcome, accepts, status, outcome}
+use Rattle.desk.specs.Calls.{Call, rules, step, Write, Check}
+use Rattle.desk.specs.declared.Answer.the-variants.{Refused, Done}
+use Rattle.desk.specs.declared.Report.the-variants.{Checked}
+use Rattle.promises.specs.Answers.{First}
+
+-- A program as a reader sees it: what it makes of each call in each state
+abbrev pub Program : Type 0
+Program = Call → State → Outcome
+
+-- its refusals are those of demand 2; every call's statement holds of it
+abbrev pub RefusesExactly : Program → Type 0
+RefusesExactly p = (c : Call) (s : State) (r : Refusal) → (p c s .answer ≡ Refused r) ↔ ((k : ℕ) × First (rules c s) k r)
+
+abbrev pub Meets : Program → Type 0
+Meets p = (c : Call) (s : State) → p c s ≡ step c s
+
+-- "One that refuses everything, and one that always answers $00: demand 2 shuts both out, by each refusal's exact condition."
+abbrev pub NotAllRefused : Type 0
+NotAllRefused = (p : Program) → RefusesExactly p → ((c : Call) (s : State) → accepts (p c s .answer) ≡ false) → ⊥
+
+abbrev pub NotAllDone : Type 0
+NotAllDone = (p : Program) → RefusesExactly p → ((c : Call) (s : State) → status (p c s .answer) ≡ 0x00) → ⊥
+
+-- "One that changes nothing satisfies demand 3 and falls to demand 2 at step 2."
+abbrev pub NotUnchanged : Type 0
+NotUnchanged = (p : Program) → Meets p → ((c : Call) (s : State) → p c s .image ≡ s .image) → ⊥
+
+-- "One that appends properly once and later only moves E falls to demand 2 at step 6": E is bytes 4 to 7 of the access block
+pub record OnlyMovesE (img e img′ : List ℕ) : Type 0 where
+  pub newE : List ℕ
+  pub four : length newE ≡ 4
+  pub only : img′ ≡ put (256 * start e + 4) newE img
+
+abbrev pub NotOnlyE : Type 0
+NotOnlyE =
+    (p : Program) → Meets p
+    → ((s : State) (caller lun sel num : ℕ) (bs : List ℕ) → accepts (p (Write caller lun sel num bs) s .answer) ≡ true
+    → contiguous (fileOf s lun) ≡ false → 1 ≤ extent (s .image) (fileOf s lun)
+    → OnlyMovesE (s .image) (fileOf s lun) (p (Write caller lun sel num bs) s .image)) → ⊥
+
+-- "An invented free count falls to check's definition over the SAT."
+abbrev pub CheckCounts : Type 0
+CheckCounts =
+    (s : State) → step Check s
+    ≡ outcome (Done (Checked (sound (s .image)) (if sound (s .image) then free (s .image) else 0))) (s .image) (s .desk) []

@@ -1,0 +1,23 @@
+-- What a call's touch says of one file, and of one record or sector of it.
+use mathlib.Core.Bool.{Bool, true, false}
+use Prim.Native.Nat.{ℕ, _+_}
+use lib.Dec.{eqb, leb, ltb}
+use Rattle.lists.specs.Lists.{_and_}
+use Rattle.desk.specs.Calls.{Touch, Nothing, OneFile, Units, WhereFilesLie, Everything}
+
+-- whether the file in slot k may change, be it in its bytes or in where they lie
+unfoldable pub changes : Touch → ℕ → Bool
+changes Nothing k = false
+changes (OneFile j) k = eqb j k
+changes (Units j i n) k = eqb j k
+changes WhereFilesLie k = true
+changes Everything k = true
+
+-- whether what unit u of slot k held may end: its record, or the bytes of its sector. (The unit that a sequential write touches is the
+-- new record, whose number is the record count: no record that is there ends by it.)
+unfoldable pub ends : Touch → ℕ → ℕ → Bool
+ends Nothing k u = false
+ends (OneFile j) k u = eqb j k
+ends (Units j i n) k u = eqb j k and leb i u and ltb u (i + n)
+ends WhereFilesLie k u = false
+ends Everything k u = true

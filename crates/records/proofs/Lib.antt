@@ -1,0 +1,14 @@
+pub mod ChunkWritten
+pub mod FixedRecords
+pub mod ImageBySectors
+pub mod LaidLength
+pub mod LaidStream
+pub mod RecordPlaces
+pub mod RecordReplaced
+pub mod RecordStreams
+pub mod RecordWalk
+pub mod StreamBytes
+pub mod StreamWrites
+pub mod VariableRecords
+pub mod WalkSteps
+pub mod WritesCommute

@@ -1,0 +1,54 @@
+-- The bytes of a mapped stream: its length, and where in the image each byte stands.
+use mathlib.Core.Path.{_≡_, _∙_, refl}
+use mathlib.Core.List.{List, [], _∷_}
+use Prim.Native.Nat.{ℕ, _+_, _*_, _/_, _%_, _<_, suc, _≤_}
+use native.Mathlib.Nat.{add-zero}
+use native.Mathlib.Omega.{arith}
+use lib.ListN.{take-append-drop, getD, drop, length, length-append}
+use lib.Seq.{getD-take, getD-drop}
+use mir.Val.{Fits}
+use mir.Syntax.{w8}
+use Rattle.lists.specs.Parts.{put, byte, part, sector}
+use Rattle.lists.specs.Lists.{flat}
+use Rattle.lists.proofs.LentParts.{length-sector}
+use Rattle.lists.proofs.Pieces.{flat-at}
+use Rattle.lists.proofs.AreBytes.{Bytes}
+use Rattle.records.specs.Streams.{laidOut}
+use Rattle.records.specs.Code.Mapped.{Mapped}
+
+pub put-none : (i : ℕ) (l : List ℕ) → put i [] l ≡ l
+unfolding put
+put-none i l = rw add-zero (take-append-drop i l)
+
+-- the place in the image of the stream's byte p
+abbrev pub addressOf : List ℕ → ℕ → ℕ
+addressOf ss p = 256 * getD ss (p / 256) 0 + p % 256
+
+pub byte-sector : (s r : ℕ) (l : List ℕ) → r < 256 → byte (sector s l) r ≡ byte l (256 * s + r)
+unfolding sector part
+byte-sector s r l h = getD-take 256 (drop (256 * s) l) r 0 h ∙ getD-drop (256 * s) l r 0
+
+length-laid : (img ss : List ℕ) → ((k : ℕ) → k < length ss → 256 * getD ss k 0 + 256 ≤ length img) → length (laidOut img ss) ≡ 256 * length ss
+unfolding laidOut flat
+length-laid img [] h = refl
+length-laid img (s ∷ ss) h =
+    let a : length (sector s img) ≡ 256 = length-sector s img (h 0 (omega arith)) in
+    let r : length (laidOut img ss) ≡ 256 * length ss = length-laid img ss (λ k l. h (suc k) (omega arith)) in
+    length-append (sector s img) (laidOut img ss) ∙ omega arith
+
+module _ (img ss : List ℕ) (m : Mapped img ss) where
+  pub length-laidOut : length (laidOut img ss) ≡ 256 * length ss
+  length-laidOut = length-laid img ss (m .inside)
+
+  pub laidOut-at : (p : ℕ) → p < 256 * length ss → byte (laidOut img ss) p ≡ byte img (addressOf ss p)
+  unfolding laidOut
+  laidOut-at p h =
+      flat-at (λ s. sector s img) ss (λ k l. length-sector (getD ss k 0) img (m .inside k l)) p h
+      ∙ byte-sector (getD ss (p / 256) 0) (p % 256) img (omega arith)
+
+  pub address-in : (p : ℕ) → p < 256 * length ss → addressOf ss p < length img
+  address-in p h = omega (arith, m .inside (p / 256) (omega arith))
+
+-- what the checker knows of a slice of bytes
+pub known : (l : List ℕ) → ((i : ℕ) → Fits w8 (getD l i 0)) → Bytes l
+known l h i = omega (arith, h i)

@@ -1,0 +1,3 @@
+pub mod Mapped
+pub mod Spots
+pub mod Walk

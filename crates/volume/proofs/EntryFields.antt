@@ -1,0 +1,88 @@
+-- An entry's fields, read back.
+use mathlib.Core.Path.{_≡_, refl, ap, _∙_}
+use mathlib.Core.Bool.{true, false}
+use mathlib.Core.List.{List, [], _∷_, _++_}
+use Prim.Native.Nat.{ℕ, _+_, _*_, _/_, _%_, _≤_}
+use native.Mathlib.Omega.{arith}
+use lib.ListN.{length, getD, length-append}
+use lib.Seq.{getD-append-add, take-at}
+use lib.Dec.{eqb, leb}
+use borrow.Author.Tests.{eqb-true, le-leb}
+use Rattle.numbers.specs.Numbers.{recordLimit}
+use Rattle.lists.specs.Lists.{_and_, if_then_else_, all}
+use Rattle.lists.specs.Parts.{word, bytes2, part}
+use Rattle.lists.proofs.Tests.{and-left, both-true}
+use Rattle.volume.specs.Names.{descriptor}
+use Rattle.volume.specs.Directory.{unused, kind, contiguous, described, recordLength, start, size, Fields, entry, valid, named}
+
+pub descriptor-length : (d : List ℕ) → descriptor d ≡ true → length d ≡ 20
+unfolding descriptor
+descriptor-length d h = eqb-true _ _ (and-left _ _ (and-left _ _ (and-left _ _ (and-left _ _ h))))
+
+module _ (f : Fields) where
+  -- the kind needs no descriptor's length
+  pub entry-kind : kind (entry f) ≡ f .kind
+  unfolding entry
+  entry-kind = refl
+
+  pub entry-contiguous : contiguous (entry f) ≡ eqb (f .kind) 0
+  unfolding contiguous entry
+  entry-contiguous = refl
+
+  pub entry-used : unused (entry f) ≡ false
+  unfolding entry all _and_
+  entry-used = refl
+
+  module _ (hd : length (f .described) ≡ 20) where
+    pub entry-length : length (entry f) ≡ 32
+    unfolding entry
+    entry-length = simp length-append (omega arith)
+
+    -- what stands after the descriptor
+    rest : List ℕ
+    rest = 0 ∷ 0 ∷ (bytes2 (f .recordLength) ++ (bytes2 (f .start) ++ (bytes2 (f .size) ++ (0 ∷ 0 ∷ []))))
+
+    at-rest : (i j : ℕ) → j ≡ 20 + i → getD (f .described ++ rest) j 0 ≡ getD rest i 0
+    at-rest i j e =
+        let q : j ≡ length (f .described) + i = omega arith in
+        ap (λ (m : ℕ). getD (f .described ++ rest) m 0) q ∙ getD-append-add (f .described) rest i 0
+
+    pub entry-described : described (entry f) ≡ f .described
+    unfolding described part entry
+    entry-described = take-at (f .described) _ 20 hd
+
+    -- a word of it
+    at-word : (i j w : ℕ) → j ≡ 20 + i → getD rest i 0 ≡ w / 256 → getD rest (i + 1) 0 ≡ w % 256
+        → 256 * getD (f .described ++ rest) j 0 + getD (f .described ++ rest) (j + 1) 0 ≡ w
+    at-word i j w e hi lo = rw (at-rest i j e, at-rest (i + 1) (j + 1) (omega arith), hi, lo) (omega arith)
+
+    pub entry-22 : word (entry f) 22 ≡ 0
+    unfolding entry rest
+    entry-22 = at-word 0 20 0 refl refl refl
+
+    pub entry-recordLength : recordLength (entry f) ≡ f .recordLength
+    unfolding entry rest
+    entry-recordLength = at-word 2 22 (f .recordLength) refl refl refl
+
+    pub entry-start : start (entry f) ≡ f .start
+    unfolding entry rest
+    entry-start = at-word 4 24 (f .start) refl refl refl
+
+    pub entry-size : size (entry f) ≡ f .size
+    unfolding entry rest
+    entry-size = at-word 6 26 (f .size) refl refl refl
+
+    pub entry-30 : word (entry f) 30 ≡ 0
+    unfolding entry rest
+    entry-30 = at-word 8 28 0 refl refl refl
+
+  pub entry-named : (h : length (f .described) ≡ 20) (x : List ℕ) → named (described (entry f)) x ≡ named (f .described) x
+  entry-named h x = rw (entry-described h)
+
+  pub entry-valid : descriptor (f .described) ≡ true → f .kind ≤ 1
+      → (if eqb (f .kind) 0 then leb 1 (f .size) and eqb (f .recordLength) 0 else eqb (f .size) 0 and leb (f .recordLength) recordLimit) ≡ true → valid (entry f) ≡ true
+  unfolding valid entry
+  entry-valid hd hk z =
+      let h : length (f .described) ≡ 20 = descriptor-length (f .described) hd in
+      rw (entry-described h, entry-22 h, entry-30 h, entry-contiguous, entry-size h, entry-recordLength h)
+      (both-true _ _ (both-true _ _ (both-true _ _ (both-true _ _ (both-true _ _ refl (le-leb (f .kind) 1 hk)) hd) refl) refl) z)

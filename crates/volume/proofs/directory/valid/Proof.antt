@@ -1,0 +1,60 @@
+use mathlib.Core.Path.{refl, ap}
+use lib.Dec.{eqb, leb}
+use borrow.Author.Needs.{needs}
+use Rattle.lists.specs.Parts.{part}
+use Rattle.lists.proofs.Bools.{and-of}
+use Rattle.volume.specs.Directory.{valid, described}
+use Rattle.volume.proofs.directory.valid.Statement.{statement}
+use Rattle.volume.proofs.directory.valid.Tie as tie
+
+shared-slice-read-result : tie.Need-shared-slice-read-result
+shared-slice-read-result c = search needs
+
+kind-requires : tie.Need-kind-requires
+kind-requires c κs = search needs
+
+sub-descriptor : tie.Need-sub-descriptor
+sub-descriptor c = search needs
+
+part-descriptor-start : tie.Need-part-descriptor-start
+part-descriptor-start c = search needs
+
+part-descriptor-end : tie.Need-part-descriptor-end
+part-descriptor-end c = search needs
+
+descriptor-requires : tie.Need-descriptor-requires
+descriptor-requires c κs = search needs
+
+word-at-requires : tie.Need-word-at-requires
+word-at-requires c κs = search needs
+
+word-at-requires-2 : tie.Need-word-at-requires-2
+word-at-requires-2 c κs = search needs
+
+extent-good-requires : tie.Need-extent-good-requires
+extent-good-requires c κs = search needs
+
+returns : tie.Need-returns
+unfolding valid described part
+returns c =
+    let kind = c .before .before .before .before .before .kind in
+    and-of
+    (and-of
+    (and-of (and-of (and-of refl (ap (λ n. leb n 1) (kind .ensures .0))) (c .before .before .before .descriptor .ensures))
+    (ap (λ n. eqb n 0) (c .before .before .word-at .ensures .0)))
+    (ap (λ n. eqb n 0) (c .before .word-at2 .ensures .0))) (c .extent-good .ensures)
+
+pub valid-spec : {M : Type 1} → statement M
+valid-spec =
+    tie.close
+    (tie.spec
+    shared-slice-read-result
+    kind-requires
+    sub-descriptor
+    part-descriptor-start
+    part-descriptor-end
+    descriptor-requires
+    word-at-requires
+    word-at-requires-2
+    extent-good-requires
+    returns)

@@ -1,0 +1,94 @@
+-- "Directory: D consecutive sectors of 32-byte entries", an entry's fields, and point 2 of soundness.
+use mathlib.Core.List.{List, [], _∷_, _++_}
+use mathlib.Core.Bool.{Bool, not, true}
+use Prim.Native.Nat.{ℕ, _*_, _+_}
+use lib.ListN.{getD}
+use lib.Dec.{eqb, leb}
+use Rattle.numbers.specs.Numbers.{recordLimit}
+use Rattle.lists.specs.Parts.{part, zeros, byte, word, bytes2, put}
+use Rattle.lists.specs.Lists.{pieces, _and_, if_then_else_, same, all, _or_}
+use Rattle.volume.specs.Volume.{dirAt, dirs}
+use Rattle.volume.specs.Names.{descriptor}
+
+-- the entries, counted from 0 as slots
+unfoldable pub entries : List ℕ → List (List ℕ)
+entries img = pieces (8 * dirs img) 32 (part (256 * dirAt img) (256 * dirs img) img)
+
+unfoldable pub entryAt : List ℕ → ℕ → List ℕ
+entryAt img k = getD (entries img) k []
+
+-- "An unused entry is 32 zeros."
+abbrev pub unused : List ℕ → Bool
+unused = zeros
+
+-- "1 type, 0 contiguous or 1 sequential; 2-3 user; 4-11 catalog; 12-19 filename; 20-21 extension"
+abbrev pub kind : List ℕ → ℕ
+kind e = byte e 1
+
+unfoldable pub contiguous : List ℕ → Bool
+contiguous e = eqb (kind e) 0
+
+abbrev pub owner : List ℕ → ℕ
+owner e = word e 2
+
+unfoldable pub described : List ℕ → List ℕ
+described e = part 2 20 e
+
+-- "24-25 record length; 26-27 first sector, or the access block's; 28-29 sectors (0 for sequential)"
+abbrev pub recordLength : List ℕ → ℕ
+recordLength e = word e 24
+
+abbrev pub start : List ℕ → ℕ
+start e = word e 26
+
+abbrev pub size : List ℕ → ℕ
+size e = word e 28
+
+-- the fields of an entry in use, and the entry that has them; "0 is 1", "22-23 zero", "30-31 zero"
+pub record Fields : Type 0 where
+  pub kind : ℕ
+  pub described : List ℕ
+  pub recordLength : ℕ
+  pub start : ℕ
+  pub size : ℕ
+
+abbrev pub fields : ℕ → List ℕ → ℕ → ℕ → ℕ → Fields
+fields k d l s n = record { kind = k; described = d; recordLength = l; start = s; size = n }
+
+unfoldable pub entry : Fields → List ℕ
+entry f =
+    1 ∷ f .kind ∷ (f .described
+    ++ (0 ∷ 0 ∷ (bytes2 (f .recordLength) ++ (bytes2 (f .start) ++ (bytes2 (f .size) ++ (0 ∷ 0 ∷ []))))))
+
+-- "A contiguous file has 1 or more sectors and record length 0; a sequential one has record length 0 (variable) to 1,024."
+abbrev pub extentGood : List ℕ → Bool
+extentGood e =
+    if contiguous e then leb 1 (size e) and eqb (recordLength e) 0 else eqb (size e) 0 and leb (recordLength e) recordLimit
+
+-- "A used entry is valid when its fields are as above, user and names in range"
+unfoldable pub valid : List ℕ → Bool
+valid e =
+    eqb (byte e 0) 1 and leb (kind e) 1 and descriptor (described e) and eqb (word e 22) 0 and eqb (word e 30) 0
+    and extentGood e
+
+-- "No two used entries agree in user, catalog, filename and extension."
+unfoldable pub named : List ℕ → List ℕ → Bool
+named d e = same d (described e)
+
+unfoldable pub clashes : List ℕ → List ℕ → Bool
+clashes d e = not (unused d) and not (unused e) and named (described d) e
+
+unfoldable pub namesDiffer : List (List ℕ) → Bool
+namesDiffer [] = true
+namesDiffer (e ∷ es) = all (λ d. not (clashes e d)) es and namesDiffer es
+
+-- Sound, 2: "Each entry is unused or valid. No two used entries agree .."
+unfoldable pub sound2 : List ℕ → Bool
+sound2 img = all (λ e. unused e or valid e) (entries img) and namesDiffer (entries img)
+
+unfoldable pub putEntry : List ℕ → ℕ → List ℕ → List ℕ → List ℕ
+putEntry v k e img = put (256 * dirAt v + 32 * k) e img
+
+unfoldable pub directory-open : Unit {0}
+unfolding entries entryAt contiguous described entry valid named clashes namesDiffer sound2 putEntry
+directory-open = tt

@@ -1,0 +1,299 @@
+// The directory: where an entry and its fields stand; entries judged, searched, written.
+ghost use Rattle.lists.specs.Lists.{_or_, all, index};
+ghost use mathlib.Core.Path.{_≡_};
+ghost use Prim.Native.Nat.{_+_, _*_, _<_, _≤_};
+ghost use Rattle.volume.specs.Directory.{entryAt, unused, kind, contiguous, owner, recordLength, start, size, fields, entry};
+ghost use Rattle.volume.specs.Directory.{extentGood, valid, entries, clashes, namesDiffer, sound2, named};
+ghost use Rattle.volume.specs.Code.Located.{Located, entryByte, EntryIn};
+ghost use lib.ListN.{length, drop};
+ghost use Rattle.numbers.specs.Numbers.{mostSectors, mostDirs};
+ghost use Rattle.lists.specs.Parts.{put, bytes2, blanks};
+ghost use mathlib.Core.List.{[], _∷_, _++_};
+ghost use mathlib.Core.Bool.{false, not};
+ghost use Rattle.volume.specs.Code.Found.{foundOf};
+use crate::locate::Layout;
+use crate::names::descriptor;
+use lists::parts::all_zero;
+use lists::parts::clear;
+use lists::parts::copy_in;
+use lists::parts::put_word;
+use lists::parts::same_bytes;
+use lists::parts::sector_of;
+use lists::parts::wide;
+use lists::parts::word_at;
+use numbers::RECORD_LIMIT;
+
+/// A slot of the directory, or none.
+pub enum Found {
+    At(usize),
+    Nothing,
+}
+
+// Where the entry in slot k starts.
+fn entry_at(p: Layout, k: usize) -> usize
+    requires { ⌜ (p .dir ≤ mostSectors) × (k < 8 * mostDirs) ⌝ }
+    ensures { λ r. ⌜ r ≡ entryByte p k ⌝ }
+{
+    256 * p.dir + 32 * k
+}
+
+/// The entry in slot k.
+pub fn entry_of(img: &[u8], p: Layout, k: usize) -> &[u8]
+    requires { ⌜ Located (now img) p × (k < 8 * p .dirs) ⌝ }
+    ensures { λ r. ⌜ now r ≡ entryAt (now (img .entry)) k ⌝ }
+{
+    let a = entry_at(p, k);
+    let e = a + 32;
+    &img[a..e]
+}
+
+pub fn unused(e: &[u8]) -> bool
+    ensures { λ r. ⌜ r ≡ unused (now (e .entry)) ⌝ }
+{
+    all_zero(e)
+}
+
+/// The type: 0 contiguous, 1 sequential.
+pub fn kind(e: &[u8]) -> usize
+    requires { ⌜ length (now e) ≡ 32 ⌝ }
+    ensures { λ r. ⌜ (r ≡ kind (now (e .entry))) × (r < 256) ⌝ }
+{
+    wide(e[1])
+}
+
+pub fn contiguous(e: &[u8]) -> bool
+    requires { ⌜ length (now e) ≡ 32 ⌝ }
+    ensures { λ r. ⌜ r ≡ contiguous (now (e .entry)) ⌝ }
+{
+    kind(e) == 0
+}
+
+/// The user whose file it is.
+pub fn owner(e: &[u8]) -> usize
+    requires { ⌜ length (now e) ≡ 32 ⌝ }
+    ensures { λ r. ⌜ (r ≡ owner (now (e .entry))) × (r < 65536) ⌝ }
+{
+    word_at(e, 2)
+}
+
+pub fn record_length(e: &[u8]) -> usize
+    requires { ⌜ length (now e) ≡ 32 ⌝ }
+    ensures { λ r. ⌜ (r ≡ recordLength (now (e .entry))) × (r < 65536) ⌝ }
+{
+    word_at(e, 24)
+}
+
+/// The first sector, or the access block's.
+pub fn start(e: &[u8]) -> usize
+    requires { ⌜ length (now e) ≡ 32 ⌝ }
+    ensures { λ r. ⌜ (r ≡ start (now (e .entry))) × (r < 65536) ⌝ }
+{
+    word_at(e, 26)
+}
+
+/// The sectors of a contiguous file.
+pub fn size(e: &[u8]) -> usize
+    requires { ⌜ length (now e) ≡ 32 ⌝ }
+    ensures { λ r. ⌜ (r ≡ size (now (e .entry))) × (r < 65536) ⌝ }
+{
+    word_at(e, 28)
+}
+
+// A contiguous file has sectors and no record length; a sequential one has its sectors in its access block, and may have a length.
+fn extent_good(e: &[u8]) -> bool
+    requires { ⌜ length (now e) ≡ 32 ⌝ }
+    ensures { λ r. ⌜ r ≡ extentGood (now (e .entry)) ⌝ }
+{
+    let n = size(e);
+    let long = record_length(e);
+    if contiguous(e) {
+        return (1 <= n) & (long == 0);
+    }
+    (n == 0) & (long <= RECORD_LIMIT)
+}
+
+/// A used entry's fields are in range.
+pub fn valid(e: &[u8]) -> bool
+    requires { ⌜ length (now e) ≡ 32 ⌝ }
+    ensures { λ r. ⌜ r ≡ valid (now (e .entry)) ⌝ }
+{
+    (e[0] == 1)
+        & (kind(e) <= 1)
+        & descriptor(&e[2..22])
+        & (word_at(e, 22) == 0)
+        & (word_at(e, 30) == 0)
+        & extent_good(e)
+}
+
+fn entry_good(e: &[u8]) -> bool
+    requires { ⌜ length (now e) ≡ 32 ⌝ }
+    ensures { λ r. ⌜ r ≡ unused (now (e .entry)) or valid (now (e .entry)) ⌝ }
+{
+    if unused(e) {
+        return true;
+    }
+    valid(e)
+}
+
+pub fn entries_valid(img: &[u8], p: Layout) -> bool
+    requires { ⌜ Located (now img) p ⌝ }
+    ensures { λ r. ⌜ r ≡ all (λ e. unused e or valid e) (entries (now (img .entry))) ⌝ }
+{
+    let n = 8 * p.dirs;
+    let mut k = 0;
+    while k < n {
+        if !entry_good(entry_of(img, p, k)) {
+            return false;
+        }
+        k += 1;
+    }
+    true
+}
+
+// Two used entries of one name, the first of which is known to be used.
+fn clash(e: &[u8], d: &[u8]) -> bool
+    requires { ⌜ (length (now e) ≡ 32) × (length (now d) ≡ 32) × (unused (now e) ≡ false) ⌝ }
+    ensures { λ r. ⌜ r ≡ clashes (now (e .entry)) (now (d .entry)) ⌝ }
+{
+    if same_bytes(&e[2..22], &d[2..22]) {
+        return !unused(d);
+    }
+    false
+}
+
+// No later entry has the name of the entry in slot k.
+fn alone(img: &[u8], p: Layout, k: usize) -> bool
+    requires { ⌜ Located (now img) p × (k < 8 * p .dirs) ⌝ }
+    ensures { λ r. ⌜ r ≡ all (λ d. not (clashes (entryAt (now (img .entry)) k) d)) (drop (k + 1) (entries (now (img .entry)))) ⌝ }
+{
+    let e = entry_of(img, p, k);
+    if unused(e) {
+        return true;
+    }
+    let n = 8 * p.dirs;
+    let mut j = k + 1;
+    while j < n {
+        if clash(e, entry_of(img, p, j)) {
+            return false;
+        }
+        j += 1;
+    }
+    true
+}
+
+pub fn names_differ(img: &[u8], p: Layout) -> bool
+    requires { ⌜ Located (now img) p ⌝ }
+    ensures { λ r. ⌜ r ≡ namesDiffer (entries (now (img .entry))) ⌝ }
+{
+    let n = 8 * p.dirs;
+    let mut k = 0;
+    while k < n {
+        if !alone(img, p, k) {
+            return false;
+        }
+        k += 1;
+    }
+    true
+}
+
+/// Point 2 of soundness.
+pub fn directory_sound(img: &[u8], p: Layout) -> bool
+    requires { ⌜ Located (now img) p ⌝ }
+    ensures { λ r. ⌜ r ≡ sound2 (now (img .entry)) ⌝ }
+{
+    if entries_valid(img, p) {
+        return names_differ(img, p);
+    }
+    false
+}
+
+/// The lowest slot of that name: sector by sector and entry by entry, up to the first match.
+pub fn find(img: &[u8], p: Layout, desc: &[u8]) -> Found
+    requires { ⌜ Located (now img) p ⌝ }
+    ensures { λ r. ⌜ r ≡ foundOf (8 * p .dirs) (index (named (now (desc .entry))) (entries (now (img .entry)))) ⌝ }
+{
+    let dir = p.dir;
+    let dirs = p.dirs;
+    let mut found = Found::Nothing;
+    let mut j = 0;
+    'sectors: while j < dirs {
+        let part = sector_of(img, dir + j);
+        let mut k = 0;
+        while k < 8 {
+            let a = 32 * k + 2;
+            let e = a + 20;
+            if same_bytes(desc, &part[a..e]) {
+                found = Found::At(8 * j + k);
+                break 'sectors;
+            }
+            k += 1;
+        }
+        j += 1;
+    }
+    found
+}
+
+pub fn lowest_unused(img: &[u8], p: Layout) -> Found
+    requires { ⌜ Located (now img) p ⌝ }
+    ensures { λ r. ⌜ r ≡ foundOf (8 * p .dirs) (index unused (entries (now (img .entry)))) ⌝ }
+{
+    let n = 8 * p.dirs;
+    let mut k = 0;
+    while k < n {
+        if unused(entry_of(img, p, k)) {
+            return Found::At(k);
+        }
+        k += 1;
+    }
+    Found::Nothing
+}
+
+// What stands after the descriptor.
+fn put_numbers(part: &mut [u8], len: usize, s: usize, n: usize)
+    requires { ⌜ (length (now part) ≡ 32) × (len < 65536) × (s < 65536) × (n < 65536) ⌝ }
+    ensures { λ _. ⌜ now (part .exit) ≡ put 22 (0 ∷ 0 ∷ (bytes2 len ++ (bytes2 s ++ (bytes2 n ++ (0 ∷ 0 ∷ []))))) (now (part .entry)) ⌝ }
+{
+    put_word(part, 22, 0);
+    put_word(part, 24, len);
+    put_word(part, 26, s);
+    put_word(part, 28, n);
+    put_word(part, 30, 0);
+}
+
+fn put_fields(part: &mut [u8], desc: &[u8], kind: usize, len: usize, s: usize, n: usize)
+    requires { ⌜ (length (now part) ≡ 32) × (length (now desc) ≡ 20) × (kind ≤ 1) × (len < 65536) × (s < 65536) × (n < 65536) ⌝ }
+    ensures { λ _. ⌜ now (part .exit) ≡ entry (fields kind (now (desc .entry)) len s n) ⌝ }
+{
+    put_word(part, 0, 256 + kind);
+    copy_in(&mut part[2..22], desc);
+    put_numbers(part, len, s, n);
+}
+
+/// Writes an entry of these fields in slot k: the kind, the record length, the first sector and the number of sectors.
+pub fn put_entry(
+    img: &mut [u8],
+    p: Layout,
+    k: usize,
+    desc: &[u8],
+    kind: usize,
+    len: usize,
+    s: usize,
+    n: usize,
+)
+    requires { ⌜ EntryIn (now img) p k × (length (now desc) ≡ 20) × (kind ≤ 1) × (len < 65536) × (s < 65536) × (n < 65536) ⌝ }
+    ensures { λ _. ⌜ now (img .exit) ≡ put (entryByte p k) (entry (fields kind (now (desc .entry)) len s n)) (now (img .entry)) ⌝ }
+{
+    let a = entry_at(p, k);
+    let e = a + 32;
+    put_fields(&mut img[a..e], desc, kind, len, s, n);
+}
+
+/// Makes the entry in slot k an unused one.
+pub fn clear_entry(img: &mut [u8], p: Layout, k: usize)
+    requires { ⌜ EntryIn (now img) p k ⌝ }
+    ensures { λ _. ⌜ now (img .exit) ≡ put (entryByte p k) (blanks 32) (now (img .entry)) ⌝ }
+{
+    let a = entry_at(p, k);
+    let e = a + 32;
+    clear(&mut img[a..e]);
+}

@@ -1,0 +1,9 @@
+pub mod Rules
+pub mod Bounds
+pub mod Spots
+pub mod Copies
+pub mod Readings
+pub mod Writes
+pub mod Updates
+pub mod Searches
+pub mod NewFiles

@@ -1,0 +1,60 @@
+-- What the work of a call comes to, as its function hands it back: its answer, and image and buffer after it. Each is the rules of the
+-- call's own, and then its change.
+use mathlib.Core.List.{List, []}
+use Prim.Native.Nat.{ℕ}
+use lib.ListN.{length}
+use Rattle.lists.specs.Parts.{sectors}
+use Rattle.volume.specs.Formatted.{formatted}
+use Rattle.work.specs.declared.Worked.{Worked}
+use Rattle.work.specs.declared.Worked.the-variants.{Denied, Did}
+use Rattle.work.specs.Refusals.{Rule, ruled}
+use Rattle.work.specs.Transfers.{Moving, readRules, reading, writeRules, writing, roomRules, updateRules, updating}
+use Rattle.work.specs.Volumes.{formatRules, allocateRules, newFile, placeRules, namedRules, slotOf}
+use Rattle.work.specs.declared.Sought.{Sought}
+use Rattle.work.specs.declared.Sought.the-variants as sought
+
+pub record Deed : Type 0 where
+  pub answer : Worked
+  pub image : List ℕ
+  pub buffer : List ℕ
+
+abbrev pub deed : Worked → List ℕ → List ℕ → Deed
+deed a img buf = record { answer = a; image = img; buffer = buf }
+
+-- by these rules, on an image and a buffer that a refusal leaves: that change
+unfoldable pub doneBy : List Rule → List ℕ → List ℕ → Deed → Deed
+doneBy rs img buf d = ruled rs (λ why. deed (Denied why) img buf) d
+
+unfoldable pub moved : Moving → Deed
+moved m = deed (Did (m .bytes) (m .from) (m .count)) (m .image) (m .buffer)
+
+-- a change with no data
+unfoldable pub quiet : List ℕ → Deed
+quiet img = deed (Did 0 0 0) img []
+
+unfoldable pub readDeed : List ℕ → List ℕ → ℕ → List ℕ → Deed
+readDeed img e i buf = doneBy (readRules img e i (length buf)) img buf (moved (reading img e i buf))
+
+unfoldable pub writeDeed : List ℕ → List ℕ → ℕ → List ℕ → Deed
+writeDeed img e i bs = doneBy (writeRules img e i bs) img bs (moved (writing img e i bs))
+
+-- a record that may be written as number i, if there is room for it
+unfoldable pub appendDeed : List ℕ → List ℕ → ℕ → List ℕ → Deed
+appendDeed img e i bs = doneBy (roomRules img e bs) img bs (moved (writing img e i bs))
+
+unfoldable pub updateDeed : List ℕ → List ℕ → ℕ → List ℕ → Deed
+updateDeed img e i bs = doneBy (updateRules img e i bs) img bs (moved (updating img e i bs))
+
+unfoldable pub formatDeed : List ℕ → List ℕ → ℕ → Deed
+formatDeed img id n = doneBy (formatRules img id n) img [] (quiet (formatted id n (sectors img)))
+
+unfoldable pub allocateDeed : List ℕ → ℕ → List ℕ → ℕ → ℕ → ℕ → Deed
+allocateDeed img caller desc k n l = doneBy (allocateRules img caller desc k n l) img [] (quiet (newFile img desc k n l))
+
+-- a file that may be made, if an entry and a run are there
+unfoldable pub placeDeed : List ℕ → List ℕ → ℕ → ℕ → ℕ → Deed
+placeDeed img desc k n l = doneBy (placeRules img k n) img [] (quiet (newFile img desc k n l))
+
+-- the slot of a descriptor
+unfoldable pub soughtOf : List ℕ → List ℕ → Sought
+soughtOf img desc = ruled (namedRules img desc) sought.Denied (sought.At (slotOf img desc))

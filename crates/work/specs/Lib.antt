@@ -1,0 +1,4 @@
+pub mod Refusals
+pub mod Volumes
+pub mod Transfers
+pub mod Code

@@ -1,0 +1,103 @@
+-- The transfers read, write and update, as far as they speak of the volume alone: of the file with the entry e, from its record or
+-- sector i on. "$84, $C2, then: $84 ..; $61; $62; $63; $65"
+use mathlib.Core.List.{List, [], _∷_}
+use mathlib.Core.Bool.{Bool, not}
+use Prim.Native.Nat.{ℕ, _/_, _*_, _%_, _+_, _-_}
+use lib.Dec.{eqb, ltb, leb}
+use lib.ListN.{length}
+use Rattle.numbers.specs.Numbers.{mostMoved, mostSegments}
+use Rattle.lists.specs.Lists.{if_then_else_, _or_, _and_}
+use Rattle.lists.specs.Parts.{over}
+use Rattle.volume.specs.Directory.{contiguous, recordLength, size}
+use Rattle.volume.specs.Sat.{free}
+use Rattle.records.specs.Records.{allowed}
+use Rattle.files.specs.Files.{extent, recordAt}
+use Rattle.files.specs.Changes.{sectorsAt, needed, newPairs, appended, overwritten, updated}
+use Rattle.work.specs.Refusals.{_if_, Rule}
+use Rattle.work.specs.declared.Refusal.the-variants.{BadLength, PastEnd, NoRoom, NoSegment, Exists, BadRequest, OtherLength}
+
+-- What a transfer moves: data bytes, the first record or sector, how many of them, and image and buffer after it
+pub record Moving : Type 0 where
+  pub bytes : ℕ
+  pub from : ℕ
+  pub count : ℕ
+  pub image : List ℕ
+  pub buffer : List ℕ
+
+-- how many records or sectors m bytes are
+unfoldable pub units : List ℕ → ℕ → ℕ
+units e m = if contiguous e then m / 256 else 1
+
+unfoldable pub moving : List ℕ → ℕ → ℕ → List ℕ → List ℕ → Moving
+moving e i m img buf = record { bytes = m; from = i; count = units e m; image = img; buffer = buf }
+
+-- "contiguous length 0, no multiple of 256 or over 4,096"
+unfoldable pub oddLength : ℕ → Bool
+oddLength n = eqb n 0 or not (eqb (n % 256) 0) or ltb (256 * mostMoved) n
+
+-- "sequential write or update over 1,024 or, in a fixed file, not L"
+unfoldable pub wrongLength : List ℕ → List ℕ → Bool
+wrongLength e bs = if contiguous e then oddLength (length bs) else not (allowed (recordLength e) bs)
+
+-- "a read, update or contiguous transfer starting at or past the end"
+unfoldable pub ended : List ℕ → List ℕ → ℕ → Bool
+ended img e i = leb (extent img e) i
+
+-- "Read, contiguous: as many sectors as the buffer holds, or up to the end. Sequential: one record's data."
+unfoldable pub readable : List ℕ → ℕ → ℕ → ℕ
+readable e i n = if leb (i + n / 256) (size e) then n / 256 else size e - i
+
+unfoldable pub dataAt : List ℕ → List ℕ → ℕ → ℕ → List ℕ
+dataAt img e i n = if contiguous e then sectorsAt e i (readable e i n) img else recordAt img e i
+
+unfoldable pub readRules : List ℕ → List ℕ → ℕ → ℕ → List Rule
+readRules img e i n =
+    BadLength if (contiguous e and oddLength n)
+    ∷ PastEnd if ended img e i
+    ∷ BadLength if (not (contiguous e) and ltb n (length (recordAt img e i)))
+    ∷ []
+
+-- "Buffer bytes after it stay."
+unfoldable pub reading : List ℕ → List ℕ → ℕ → List ℕ → Moving
+reading img e i buf = moving e i (length (dataAt img e i (length buf))) img (over (dataAt img e i (length buf)) buf)
+
+-- "a contiguous write that would cross it; a sequential write to a number above the record count"
+unfoldable pub beyond : List ℕ → List ℕ → ℕ → ℕ → Bool
+beyond img e i n = if contiguous e then ended img e i or ltb (extent img e) (i + n / 256) else ltb (extent img e) i
+
+-- the sectors and segments that an append needs: $63, $65
+unfoldable pub roomRules : List ℕ → List ℕ → List ℕ → List Rule
+roomRules img e bs =
+    NoRoom if (not (contiguous e) and ltb (free img) (needed img e bs))
+    ∷ NoSegment if (not (contiguous e) and ltb mostSegments (length (newPairs img e bs)))
+    ∷ []
+
+unfoldable pub writeRules : List ℕ → List ℕ → ℕ → List ℕ → List Rule
+writeRules img e i bs =
+    BadLength if wrongLength e bs
+    ∷ PastEnd if beyond img e i (length bs)
+    ∷ Exists if (not (contiguous e) and ltb i (extent img e))
+    ∷ roomRules img e bs
+
+unfoldable pub written : List ℕ → ℕ → List ℕ → List ℕ → List ℕ
+written e i bs img = if contiguous e then overwritten e i bs img else appended e bs img
+
+unfoldable pub writing : List ℕ → List ℕ → ℕ → List ℕ → Moving
+writing img e i bs = moving e i (length bs) (written e i bs img) bs
+
+-- $82 for an "update of a contiguous file", after the opening that all transfers share
+unfoldable pub updateRules : List ℕ → List ℕ → ℕ → List ℕ → List Rule
+updateRules img e i bs =
+    BadRequest if contiguous e
+    ∷ BadLength if wrongLength e bs
+    ∷ PastEnd if ended img e i
+    ∷ OtherLength if not (eqb (length bs) (length (recordAt img e i)))
+    ∷ []
+
+unfoldable pub updating : List ℕ → List ℕ → ℕ → List ℕ → Moving
+updating img e i bs = moving e i (length bs) (updated e i bs img) bs
+
+unfoldable pub transfers-open : Unit {0}
+unfolding units moving oddLength wrongLength ended readable dataAt readRules reading beyond roomRules writeRules written writing updateRules
+    updating
+transfers-open = tt
