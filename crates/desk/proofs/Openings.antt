@@ -10,10 +10,10 @@ use Rattle.lists.proofs.Bools.{and-false}
 use Rattle.lists.proofs.Tests.{and-left}
 use Rattle.volume.specs.declared.locate.Layout.{Layout}
 use Rattle.volume.specs.Volume.{layoutOf}
-use Rattle.volume.proofs.Located.{located-sound, places-are}
+use Rattle.volume.proofs.Located.{located-sound, layout-is}
 use Rattle.files.specs.Code.Verdict.{soundAt}
 use Rattle.files.proofs.SoundFacts.{facts}
-use Rattle.files.proofs.SoundVerdict.{sound-places, no-places}
+use Rattle.files.proofs.SoundVerdict.{sound-layout, no-layout}
 use Rattle.luns.specs.Luns.{fits}
 use Rattle.work.specs.declared.Refusal.{Refusal}
 use Rattle.work.specs.declared.Refusal.the-variants.{NotSound, BadLun}
@@ -100,7 +100,7 @@ module _ (s : State) (fine : Bool) where
 module _ (img : List ℕ) (d : Desk) (fine : Bool) where
   pub begun-nowhere : soundAt img ≡ located.Nowhere → begun.Refused NotSound ≡ begunOf (state img d) fine
   unfolding begunOf beginRules ready ruled _and_
-  begun-nowhere e = rw (no-places img e)
+  begun-nowhere e = rw (no-layout img e)
 
   pub begun-misfit : fits img (d .luns) ≡ false → begun.Refused NotSound ≡ begunOf (state img d) fine
   unfolding begunOf beginRules ready ruled
@@ -109,11 +109,11 @@ module _ (img : List ℕ) (d : Desk) (fine : Bool) where
   module _ (p : Layout) (e : soundAt img ≡ located.At p) (f : fits img (d .luns) ≡ true) where
     pub begun-bad : fine ≡ false → begun.Refused BadLun ≡ begunOf (state img d) fine
     unfolding begunOf beginRules ready ruled _and_
-    begun-bad h = rw (sound-places img p e .0, f, h)
+    begun-bad h = rw (sound-layout img p e .0, f, h)
 
     pub begun-at : fine ≡ true → begun.At p ≡ begunOf (state img d) fine
     unfolding begunOf beginRules ready ruled _and_
-    begun-at h = let s = sound-places img p e in rw (s .0, f, h, places-are img p (s .1))
+    begun-at h = let s = sound-layout img p e in rw (s .0, f, h, layout-is img p (s .1))
 
 -- $82: of a transfer
 module _ (w : Bool) (s : State) (caller lun sel num : ℕ) where

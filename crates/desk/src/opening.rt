@@ -20,7 +20,7 @@ pub enum Begun {
     Refused(Refusal),
 }
 
-/// What a transfer aims at: the volume's places, the directory slot of its file, and the record or sector.
+/// What a transfer aims at: the volume's layout, the directory slot of its file, and the record or sector.
 pub struct Aim {
     pub p: Layout,
     pub slot: usize,
@@ -43,7 +43,7 @@ fn suits(mode: Mode, writing: bool) -> bool
     mode.reads()
 }
 
-// Of the LUN u on a volume with the places p: $82, or what the selector names.
+// Of the LUN u on a volume of layout p: $82, or what the selector names.
 fn aim_at(p: Layout, u: Lun, sel: u32, num: u32, writing: bool) -> Opened
     ensures { λ r. ⌜ r ≡ aimedAt p u sel num writing ⌝ }
 {

@@ -13,7 +13,7 @@ use Rattle.volume.specs.Directory.{sound2}
 use Rattle.volume.specs.Sat.{free}
 use Rattle.volume.specs.Code.Located.{Located}
 use Rattle.volume.specs.declared.locate.Where.the-variants.{At, Nowhere}
-use Rattle.volume.proofs.Located.{places-are, located-sound}
+use Rattle.volume.proofs.Located.{layout-is, located-sound}
 use Rattle.ownership.specs.Owners.{allOwned, sound5}
 use Rattle.ownership.specs.Blocks.{sound3}
 use Rattle.ownership.specs.Code.Verdict.{ownerSound, judgedOf}
@@ -52,12 +52,12 @@ module _ (img : List ℕ) where
 
     pub judged-good : sound4 img ≡ true → At p ≡ soundAt img
     unfolding soundAt _and_
-    judged-good e = rw (parts, owner-by img p h, e) (ap At (places-are img p (h .located)))
+    judged-good e = rw (parts, owner-by img p h, e) (ap At (layout-is img p (h .located)))
 
   -- what the places of a sound volume say
-  pub sound-places : (p : Layout) → soundAt img ≡ At p → (sound img ≡ true) × Located img p
+  pub sound-layout : (p : Layout) → soundAt img ≡ At p → (sound img ≡ true) × Located img p
   unfolding soundAt
-  sound-places p e = go (sound img) refl e
+  sound-layout p e = go (sound img) refl e
     where
       go : (b : Bool) → sound img ≡ b → (if b then At (layoutOf img) else Nowhere) ≡ At p → (sound img ≡ true) × Located img p
       go true h e =
@@ -66,9 +66,9 @@ module _ (img : List ℕ) where
           (h, rw q at (located-sound img (F .one)))
       go false h e = absurd (let z : _≡_ {A = ℕ} 0 1 = cc in omega arith)
 
-  pub no-places : soundAt img ≡ Nowhere → sound img ≡ false
+  pub no-layout : soundAt img ≡ Nowhere → sound img ≡ false
   unfolding soundAt
-  no-places e = go (sound img) refl e
+  no-layout e = go (sound img) refl e
     where
       go : (b : Bool) → sound img ≡ b → (if b then At (layoutOf img) else Nowhere) ≡ Nowhere → sound img ≡ false
       go true h e = absurd (let z : _≡_ {A = ℕ} 0 1 = cc in omega arith)

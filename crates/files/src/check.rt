@@ -117,7 +117,7 @@ pub fn contents_sound(img: &[u8], p: Layout) -> bool
     true
 }
 
-/// The places of a sound volume, found in any bytes. Streams come last: they are walked by maps that hold no sector twice.
+/// The layout of a sound volume, found in any bytes. Streams come last: they are walked by maps that hold no sector twice.
 pub fn locate_sound(img: &[u8]) -> Where
     ensures { λ r. ⌜ r ≡ soundAt (now (img .entry)) ⌝ }
 {

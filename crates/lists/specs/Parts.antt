@@ -47,7 +47,7 @@ inSectors n = (n + 255) / 256
 abbrev pub zeros : List ℕ → Bool
 zeros = all (λ x. eqb x 0)
 
--- "T sectors"; "sector T-1, the trailer"
+-- "T sectors": how many whole ones an image has
 unfoldable pub sectors : List ℕ → ℕ
 sectors img = length img / 256
 

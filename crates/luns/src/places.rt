@@ -1,4 +1,4 @@
-// Layout: what a selector names, seen from where a LUN stands.
+// Places: what a selector names, seen from where a LUN stands.
 ghost use mathlib.Core.Path.{_≡_};
 ghost use Rattle.luns.specs.Luns.{target, placeless};
 use crate::Place;

@@ -15,7 +15,7 @@ use Rattle.lists.proofs.Puts.{length-blanks}
 use Rattle.lists.proofs.LentParts.{wrote}
 use Rattle.lists.proofs.Ranges.{length-range}
 use Rattle.volume.specs.Volume.{sat, systemOf, system}
-use Rattle.volume.proofs.Located.{places-are}
+use Rattle.volume.proofs.Located.{layout-is}
 use Rattle.volume.specs.Directory.{entries}
 use Rattle.volume.specs.Sat.{satOf}
 use Rattle.volume.specs.Code.Located.{Located}
@@ -70,4 +70,4 @@ module _ (img : List ℕ) (p : Layout) (l : Located img p) (h : sound3 img ≡ t
   -- all that is owned, with the places that the code has
   pub all-owned : allOwned img ≡ systemOf p ++ flat (owned img) (entries img)
   unfolding allOwned system
-  all-owned = rw (places-are img p l)
+  all-owned = rw (layout-is img p l)

@@ -10,7 +10,7 @@ use Rattle.volume.specs.Directory.{sound2}
 use Rattle.volume.specs.Code.Located.{Located}
 use Rattle.volume.specs.declared.locate.Layout.{Layout}
 use Rattle.volume.specs.Volume.{sound1, layoutOf}
-use Rattle.volume.proofs.Located.{located-sound, places-are}
+use Rattle.volume.proofs.Located.{located-sound, layout-is}
 use Rattle.ownership.specs.Blocks.{sound3}
 use Rattle.ownership.specs.Owners.{sound5}
 use Rattle.ownership.specs.Code.Verdict.{ownerSound, judgedOf}
@@ -37,7 +37,7 @@ owner-by img p s = both-true _ _ (both-true _ _ (both-true _ _ (s .located .soun
 -- a verdict, both ways
 pub judged-sound : (img : List ℕ) (p : Layout) → OwnerSound img p → Sound p ≡ judgedOf img
 unfolding judgedOf
-judged-sound img p s = rw (owner-by img p s, places-are img p (s .located))
+judged-sound img p s = rw (owner-by img p s, layout-is img p (s .located))
 
 pub judged-unsound : (img : List ℕ) → ownerSound img ≡ false → Unsound ≡ judgedOf img
 unfolding judgedOf

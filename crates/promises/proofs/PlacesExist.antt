@@ -1,4 +1,4 @@
--- Layout that exist, and lengths that a contiguous transfer takes.
+-- Places that exist, and lengths that a contiguous transfer takes.
 use mathlib.Core.Path.{_≡_, refl}
 use mathlib.Core.Bool.{true, false}
 use mathlib.Core.List.{List}

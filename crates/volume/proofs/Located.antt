@@ -159,6 +159,6 @@ places-by p q a b c d =
     let e : made (p .t) (p .sat) (p .dir) (p .dirs) ≡ made (q .t) (q .sat) (q .dir) (q .dirs) = rw (a, b, c, d) in
     e
 
-pub places-are : (img : List ℕ) (p : Layout) → Located img p → p ≡ layoutOf img
+pub layout-is : (img : List ℕ) (p : Layout) → Located img p → p ≡ layoutOf img
 unfolding layoutOf
-places-are img p l = places-by p (layoutOf img) (l .is-t) (l .is-sat) (l .is-dir) (l .is-dirs)
+layout-is img p l = places-by p (layoutOf img) (l .is-t) (l .is-sat) (l .is-dir) (l .is-dirs)

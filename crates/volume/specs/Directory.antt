@@ -86,6 +86,7 @@ namesDiffer (e ∷ es) = all (λ d. not (clashes e d)) es and namesDiffer es
 unfoldable pub sound2 : List ℕ → Bool
 sound2 img = all (λ e. unused e or valid e) (entries img) and namesDiffer (entries img)
 
+-- an entry written to slot k where the volume v has its directory
 unfoldable pub putEntry : List ℕ → ℕ → List ℕ → List ℕ → List ℕ
 putEntry v k e img = put (256 * dirAt v + 32 * k) e img
 

@@ -32,7 +32,7 @@ runAt b t n s = leb (s + n) t and all (isFree b) (range s n)
 unfoldable pub lowestRun : ℕ → List ℕ → ℕ
 lowestRun n img = first (runAt (sat img) (sectors img) n) 0 (sectors img)
 
--- the SAT, or an entry, written where the volume v has it
+-- the SAT written where the volume v has it
 unfoldable pub putSat : List ℕ → List ℕ → List ℕ → List ℕ
 putSat v b img = putSector (satAt v) b img
 

@@ -10,6 +10,7 @@ use Rattle.lists.specs.Lists.{range, _and_}
 use Rattle.volume.specs.Names.{volumeId}
 use Rattle.volume.specs.declared.locate.Layout.{Layout}
 
+-- "Sector T-1, the trailer"
 unfoldable pub trailer : List ℕ → List ℕ
 trailer img = sector (sectors img - 1) img
 

@@ -25,7 +25,7 @@ pub struct Layout {
     pub dirs: usize,
 }
 
-/// The places of a volume whose point 1 holds.
+/// The layout of a volume whose point 1 holds.
 pub enum Where {
     At(Layout),
     Nowhere,

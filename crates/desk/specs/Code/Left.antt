@@ -19,7 +19,7 @@ use Rattle.desk.specs.Desk.{State, ready, putLun}
 use Rattle.desk.specs.Answers.{Outcome, judged}
 use Rattle.desk.specs.Calls.{seatRules, quietly, seatOf, removeRules}
 
--- a sound volume that the desk fits, and its places
+-- a sound volume that the desk fits, and its layout
 pub record Begins (s : State) (p : Layout) : Type 0 where
   pub located : Located (s .image) p
   pub is-ready : ready s ≡ true

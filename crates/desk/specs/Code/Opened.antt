@@ -28,7 +28,7 @@ use Rattle.desk.specs.declared.Report.the-variants.{Moved}
 use Rattle.desk.specs.declared.opening.Begun.the-variants as begun
 use Rattle.desk.specs.declared.opening.Opened.the-variants as opened
 
--- the places of a sound volume that the desk fits, if caller and LUN are fine
+-- the layout of a sound volume that the desk fits, if caller and LUN are fine
 unfoldable pub begunOf : State → Bool → Begun
 begunOf s fine = ruled (beginRules s fine) begun.Refused (begun.At (layoutOf (s .image)))
 

@@ -1,4 +1,4 @@
--- What the writers of a new file ask: places, a slot, fields that fit an entry, and a run beside the table.
+-- What the writers of a new file ask: the layout, a slot, fields that fit an entry, and a run beside the table.
 use mathlib.Core.Path.{_≡_}
 use mathlib.Core.Bool.{false}
 use mathlib.Core.List.{List}

@@ -8,7 +8,7 @@ use Rattle.volume.specs.Code.Located.{Located}
 use Rattle.volume.specs.declared.locate.Layout.{Layout}
 use Rattle.files.specs.Files.{sound}
 
--- p are the places of the sound volume img, and its slot k is in use
+-- p is the layout of the sound volume img, and its slot k is in use
 pub record InUse (img : List ℕ) (p : Layout) (k : ℕ) : Type 0 where
   pub located : Located img p
   pub is-sound : sound img ≡ true

@@ -9,7 +9,7 @@ use Rattle.volume.specs.Sat.{free}
 use Rattle.files.specs.Files.{sound}
 use Rattle.files.specs.declared.check.Checked.{Checked}
 
--- the places of a sound volume
+-- the layout of a sound volume
 unfoldable pub soundAt : List ℕ → Where
 soundAt img = if sound img then At (layoutOf img) else Nowhere
 

@@ -1,4 +1,4 @@
--- Layout in a stream: where records start, and one step of the walk over variable records.
+-- Places in a stream: where records start, and one step of the walk over variable records.
 use mathlib.Core.List.{List}
 use mathlib.Core.Bool.{Bool}
 use Prim.Native.Nat.{ℕ, _+_, _%_}

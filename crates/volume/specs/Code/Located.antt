@@ -27,7 +27,7 @@ trailerTest t tr = eqb (word tr 0) t and zeros (drop 8 tr) and ltb (satBack tr) 
 abbrev pub dirsTest : ℕ → List ℕ → Bool
 dirsTest t tr = leb 1 (dirCount tr) and leb (dirCount tr) mostDirs and leb (t - 1 - dirBack tr + dirCount tr) t
 
--- p are the places of img, and point 1 holds: what every function that is handed places asks of them
+-- p is the layout of img, and point 1 holds: what every function that is handed a layout asks of it
 pub record Located (img : List ℕ) (p : Layout) : Type 0 where
   pub is-t : p .t ≡ sectors img
   pub is-sat : p .sat ≡ satAt img
@@ -42,7 +42,7 @@ pub record Located (img : List ℕ) (p : Layout) : Type 0 where
   pub few-dirs : p .dirs ≤ mostDirs
   pub sound-1 : sound1 img ≡ true
 
--- places that a volume can have: each in range and inside it
+-- a layout that a volume can have: each part in range and inside it
 pub record LaidOut (p : Layout) : Type 0 where
   pub some : 1 ≤ p .t
   pub high : p .t ≤ mostSectors

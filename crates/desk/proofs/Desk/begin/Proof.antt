@@ -1,7 +1,7 @@
 use mathlib.Core.Path.{sym, _∙_}
 use borrow.Author.Tests.{not-true, not-false}
 use borrow.Author.Needs.{needs}
-use Rattle.files.proofs.SoundVerdict.{sound-places}
+use Rattle.files.proofs.SoundVerdict.{sound-layout}
 use Rattle.desk.proofs.Openings.{begun-nowhere, begun-misfit, begun-bad, begun-at}
 use Rattle.desk.proofs.Desk.begin.Statement.{statement}
 use Rattle.desk.proofs.Desk.begin.Tie as tie
@@ -23,7 +23,7 @@ fits-requires c κs =
     let at-locate-sound = c .before .before .before .before .locate-sound in
     let at-locate-sound = at-locate-sound in
     let locate-sound = at-locate-sound in
-    let s = sound-places _ _ (sym (locate-sound .ensures) ∙ c .before .before .p .given .1) in
+    let s = sound-layout _ _ (sym (locate-sound .ensures) ∙ c .before .before .p .given .1) in
     (s .1, s .0)
 
 returns-2 : tie.Need-returns-2

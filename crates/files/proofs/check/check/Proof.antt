@@ -1,6 +1,6 @@
 use mathlib.Core.Path.{sym, _∙_}
 use borrow.Author.Needs.{needs}
-use Rattle.files.proofs.SoundVerdict.{no-places, checked-no, sound-places, checked-yes}
+use Rattle.files.proofs.SoundVerdict.{no-layout, checked-no, sound-layout, checked-yes}
 use Rattle.files.proofs.check.check.Statement.{statement}
 use Rattle.files.proofs.check.check.Tie as tie
 
@@ -14,15 +14,15 @@ enum-told : tie.Need-enum-told
 enum-told c = search needs
 
 returns : tie.Need-returns
-returns c = checked-no _ (no-places _ (sym (c .before .before .locate-sound .ensures) ∙ c .enum-told .given .1))
+returns c = checked-no _ (no-layout _ (sym (c .before .before .locate-sound .ensures) ∙ c .enum-told .given .1))
 
 free-sectors-requires : tie.Need-free-sectors-requires
-free-sectors-requires c κs = sound-places _ _ (sym (c .before .before .before .locate-sound .ensures) ∙ c .before .found .given .1) .1
+free-sectors-requires c κs = sound-layout _ _ (sym (c .before .before .before .locate-sound .ensures) ∙ c .before .found .given .1) .1
 
 returns-2 : tie.Need-returns-2
 returns-2 c =
     let locate-sound = c .before .before .before .before .locate-sound in
-    checked-yes _ _ (c .free-sectors .ensures) (sound-places _ _ (sym (locate-sound .ensures) ∙ c .before .before .found .given .1) .0)
+    checked-yes _ _ (c .free-sectors .ensures) (sound-layout _ _ (sym (locate-sound .ensures) ∙ c .before .before .found .given .1) .0)
 
 pub check-spec : {M : Type 1} → statement M
 check-spec =
