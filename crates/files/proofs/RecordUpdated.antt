@@ -27,7 +27,8 @@ use Rattle.files.proofs.SoundFacts.{Facts}
 use Rattle.files.proofs.OneFileChanged.{Changed, entry-here}
 use Rattle.files.proofs.FileBytes.{bytes-stream, bytes-laid}
 use Rattle.files.proofs.OwnSectorsWritten.{Part, slot-placed, changed-within, sound-within, sat-within, free-within, sectors-within}
-use Rattle.files.proofs.SequentialFile.{logical-is, owned-is, placed-is, content-is, record-length, total-is, logical-inside, logical-distinct, fab-apart, length-logical, length-stream, stream-whole}
+use Rattle.files.proofs.SequentialFile.{logical-is, owned-is, placed-is, content-is, record-length, total-is, logical-inside, logical-distinct, fab-apart, length-logical}
+use Rattle.files.proofs.SequentialFile.{length-stream, stream-whole}
 
 module _ (v : List ℕ) (F : Facts v) (k : ℕ) (hk : k < 8 * dirs v) (used : unused (entryAt v k) ≡ false) (seq : contiguous (entryAt v k) ≡ false) (bytes : Bytes v)
     (i : ℕ) (r : List ℕ) (hi : i < length (records v (entryAt v k))) (fine : allowed (recordLength (entryAt v k)) r ≡ true)

@@ -4,7 +4,9 @@ use mathlib.Core.List.{List, [], _∷_}
 use Prim.Native.Nat.{ℕ}
 use Rattle.lists.specs.Lists.{if_then_else_}
 use Rattle.work.specs.declared.Refusal.{Refusal}
-use Rattle.work.specs.declared.Refusal.the-variants.{UnknownType, BadLun, NoRight, InUse, NoFile, BadRequest, BadLength, PastEnd, OutOfRange, OtherLength, Exists, NoRoom, BadDescriptor, NoSegment, NameTaken, DirectoryFull, NotSound}
+use Rattle.work.specs.declared.Refusal.the-variants.{UnknownType, BadLun, NoRight, InUse, NoFile, BadRequest, BadLength, PastEnd}
+use Rattle.work.specs.declared.Refusal.the-variants.{OutOfRange, OtherLength, Exists, NoRoom, BadDescriptor, NoSegment, NameTaken}
+use Rattle.work.specs.declared.Refusal.the-variants.{DirectoryFull, NotSound}
 
 -- the status table's numbers
 abbrev pub code : Refusal → ℕ

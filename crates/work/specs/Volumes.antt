@@ -13,7 +13,8 @@ use Rattle.volume.specs.Directory.{entries, named, unused}
 use Rattle.volume.specs.Sat.{lowestRun}
 use Rattle.files.specs.Changes.{taken, allocated}
 use Rattle.files.specs.Rights.{hasRight}
-use Rattle.work.specs.declared.Refusal.the-variants.{OutOfRange, NoFile, BadDescriptor, NoRoom, DirectoryFull, UnknownType, NoRight, NameTaken}
+use Rattle.work.specs.declared.Refusal.the-variants.{OutOfRange, NoFile, BadDescriptor, NoRoom, DirectoryFull, UnknownType, NoRight}
+use Rattle.work.specs.declared.Refusal.the-variants.{NameTaken}
 use Rattle.work.specs.Refusals.{Rule, _if_}
 
 -- Format: "$60 only": "numbers out of range, an image .. that is no multiple of 256 bytes, or a bad volume ID"

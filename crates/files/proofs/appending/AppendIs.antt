@@ -42,7 +42,8 @@ use Rattle.files.proofs.EntryAndSatWritten.{in-sat, owned-not-sat}
 use Rattle.files.proofs.SequentialFile.{owned-is, fab-inside, fab-apart, block-sound, length-stored, length-stream, tail-zero}
 use Rattle.files.proofs.taking.LowestFree.{below-few}
 use Rattle.files.proofs.appending.OwnersJoined.{inside-table}
-use Rattle.files.proofs.appending.GrownBlock.{grownBlock, blockSound-shaped, new-inside, new-distinct, new-not-system, new-not-owned, grown-inside, grown-distinct, grown-holds, length-grown-block, grown-sectorsOf, grown-sound}
+use Rattle.files.proofs.appending.GrownBlock.{grownBlock, blockSound-shaped, new-inside, new-distinct, new-not-system, new-not-owned, grown-inside, grown-distinct}
+use Rattle.files.proofs.appending.GrownBlock.{grown-holds, length-grown-block, grown-sectorsOf, grown-sound}
 use Rattle.files.proofs.SoundSat.{length-sat}
 use Rattle.files.proofs.OpenBlock.{block-larger, mapped-inside, opens}
 use Rattle.files.proofs.SlotInUse.{slot-in, used-facts}

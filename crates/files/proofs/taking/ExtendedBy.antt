@@ -15,7 +15,8 @@ use Rattle.lists.proofs.Lists.{all-at}
 use Rattle.lists.proofs.AreBytes.{Bytes}
 use Rattle.ownership.specs.Blocks.{extended, extendedBy, segStart, segLength, total, streamLength, pairs, blockOf}
 use Rattle.ownership.specs.Code.Shapes.{follows, lengthened, pair, lastPair, fours, Extends}
-use Rattle.ownership.proofs.Segments.{length-extendedBy, segStart-pair, segLength-pair, extended-cases, lastPair-cons, extended-on, extended-new, fours-extendedBy, sound-extendedBy, lastPair-short, length-lengthened}
+use Rattle.ownership.proofs.Segments.{length-extendedBy, segStart-pair, segLength-pair, extended-cases, lastPair-cons, extended-on, extended-new, fours-extendedBy}
+use Rattle.ownership.proofs.Segments.{sound-extendedBy, lastPair-short, length-lengthened}
 use Rattle.ownership.proofs.AccessBlocks.{pairs-blockOf, total-blockOf, streamLength-blockOf, shaped-blockOf, fours-pairs, block-is}
 use Rattle.files.specs.Code.Growing.{nextAfter, Grows}
 use Rattle.files.proofs.taking.LowestFree.{all-take}
