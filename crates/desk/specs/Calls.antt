@@ -2,6 +2,7 @@
 -- sent, and what it may touch. `step` is what every public function states of itself.
 use mathlib.Core.Bool.{Bool, not, true}
 use mathlib.Core.List.{List, [], _∷_, _++_}
+use mathlib.Core.Path.{_≡_}
 use Prim.Native.Nat.{ℕ, _-_}
 use lib.Dec.{leb, ltb}
 use lib.ListN.{length}
@@ -28,7 +29,8 @@ use Rattle.work.specs.Transfers.{readRules, writeRules, updateRules, Moving, re
 use Rattle.desk.specs.Desk.{State, ready, lunAt, mine, spare, fileOf, aimed, putLun, emptyDesk}
 use Rattle.desk.specs.declared.Desk.{Desk}
 use Rattle.desk.specs.declared.Report.the-variants.{Moved, Checked}
-use Rattle.desk.specs.Answers.{Change, Outcome, judged}
+use Rattle.desk.specs.Answers.{Change, Outcome, judged, outcome}
+use Rattle.desk.specs.declared.Answer.{Answer}
 
 -- Any numbers, any bytes, any lengths
 pub data Call : Type 0 where
@@ -179,6 +181,10 @@ touch (Update caller lun sel num bs) s = Units (lunAt (s .desk) lun .slot) (aime
 -- One call: the first rule that applies, or its change
 unfoldable pub step : Call → State → Outcome
 step c s = judged (rules c s) s (given c) (done c s)
+
+-- What a public function ensures of its answer, and of image, desk and buffer after it: they are those of the call's one outcome
+abbrev pub Ensured : Call → State → Answer → List ℕ → Desk → List ℕ → Type 0
+Ensured c s a img d buf = outcome a img d buf ≡ step c s
 
 unfoldable pub calls-open : Unit {0}
 unfolding beginRules openRules startOf seatOf seatRules newLun assignRules removeRules deleteRules rules quietly after transferred checked

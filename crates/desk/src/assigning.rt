@@ -7,7 +7,7 @@ ghost use Rattle.volume.specs.Directory.{entryAt};
 ghost use Rattle.files.specs.Code.Slots.{InUse};
 ghost use Rattle.desk.specs.Desk.{state};
 ghost use Rattle.desk.specs.Answers.{outcome};
-ghost use Rattle.desk.specs.Calls.{step, Assign, Close, Rewind, startOf, seatOf};
+ghost use Rattle.desk.specs.Calls.{Ensured, Assign, Close, Rewind, startOf, seatOf};
 ghost use Rattle.desk.specs.Code.Left.{Begins, modeLeft, assignLeft, seatLeft};
 use crate::Desk;
 use crate::Reply;
@@ -129,8 +129,8 @@ impl Desk {
         mode: u32,
         at_end: bool,
     ) -> Reply
-        ensures { λ r. ⌜ outcome (r .answer) (now (image .entry)) (r .desk) [] ≡ step (Assign caller lun (now (desc .entry)) mode «at_end»)
-            (state (now (image .entry)) self) ⌝ }
+        ensures { λ r. ⌜ Ensured (Assign caller lun (now (desc .entry)) mode «at_end») (state (now (image .entry)) self)
+            (r .answer) (now (image .entry)) (r .desk) [] ⌝ }
     {
         let begun = self.begin(image, self.spare(caller, lun));
         match begun {
@@ -141,8 +141,8 @@ impl Desk {
 
     /// Frees a LUN. Refuses a volume that is not sound or a desk that does not fit it, then a LUN that is not the caller's.
     pub fn close(self, image: &[u8], caller: u32, lun: u32) -> Reply
-        ensures { λ r. ⌜ outcome (r .answer) (now (image .entry)) (r .desk) []
-            ≡ step (Close caller lun) (state (now (image .entry)) self) ⌝ }
+        ensures { λ r. ⌜ Ensured (Close caller lun) (state (now (image .entry)) self)
+            (r .answer) (now (image .entry)) (r .desk) [] ⌝ }
     {
         let begun = self.begin(image, self.mine(caller, lun));
         match begun {
@@ -153,8 +153,8 @@ impl Desk {
 
     /// Makes a LUN's place Fresh. Refuses as close does.
     pub fn rewind(self, image: &[u8], caller: u32, lun: u32) -> Reply
-        ensures { λ r. ⌜ outcome (r .answer) (now (image .entry)) (r .desk) [] ≡ step (Rewind caller lun)
-            (state (now (image .entry)) self) ⌝ }
+        ensures { λ r. ⌜ Ensured (Rewind caller lun) (state (now (image .entry)) self)
+            (r .answer) (now (image .entry)) (r .desk) [] ⌝ }
     {
         let begun = self.begin(image, self.mine(caller, lun));
         match begun {

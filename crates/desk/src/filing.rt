@@ -6,7 +6,7 @@ ghost use Rattle.volume.specs.Names.{userOf};
 ghost use Rattle.files.specs.Code.Slots.{InUse};
 ghost use Rattle.desk.specs.Desk.{state};
 ghost use Rattle.desk.specs.Answers.{outcome};
-ghost use Rattle.desk.specs.Calls.{step, Allocate, Delete};
+ghost use Rattle.desk.specs.Calls.{Ensured, Allocate, Delete};
 ghost use Rattle.desk.specs.Code.Left.{Begins, deleteLeft, removeLeft};
 use crate::Desk;
 use crate::Reply;
@@ -36,8 +36,8 @@ impl Desk {
         size: u32,
         record: u32,
     ) -> Reply
-        ensures { λ r. ⌜ outcome (r .answer) (now (image .exit)) (r .desk) []
-            ≡ step (Allocate caller (now (desc .entry)) kind size «record») (state (now (image .entry)) self) ⌝ }
+        ensures { λ r. ⌜ Ensured (Allocate caller (now (desc .entry)) kind size «record») (state (now (image .entry)) self)
+            (r .answer) (now (image .exit)) (r .desk) [] ⌝ }
     {
         let begun = self.begin(image, caller <= LAST_USER);
         match begun {
@@ -90,8 +90,8 @@ impl Desk {
     /// Deletes a file of the caller's, or any if the caller is user 0. Refuses a volume that is not sound or a desk that does not
     /// fit, then the caller, the descriptor, a file that is not there, a caller without the right, and a file that some LUN holds.
     pub fn delete(self, image: &mut [u8], caller: u32, desc: &[u8]) -> Reply
-        ensures { λ r. ⌜ outcome (r .answer) (now (image .exit)) (r .desk) [] ≡ step (Delete caller (now (desc .entry)))
-            (state (now (image .entry)) self) ⌝ }
+        ensures { λ r. ⌜ Ensured (Delete caller (now (desc .entry))) (state (now (image .entry)) self)
+            (r .answer) (now (image .exit)) (r .desk) [] ⌝ }
     {
         let begun = self.begin(image, caller <= LAST_USER);
         match begun {

@@ -1,8 +1,6 @@
 // Read, write and update: the opening that they share, the work, and the LUN's new place.
-ghost use mathlib.Core.Path.{_≡_};
 ghost use Rattle.desk.specs.Desk.{state};
-ghost use Rattle.desk.specs.Answers.{outcome};
-ghost use Rattle.desk.specs.Calls.{step, Read, Write, Update};
+ghost use Rattle.desk.specs.Calls.{Ensured, Read, Write, Update};
 use crate::Desk;
 use crate::Reply;
 use crate::opening::Opened;
@@ -23,8 +21,8 @@ impl Desk {
         num: u32,
         buffer: &mut [u8],
     ) -> Reply
-        ensures { λ r. ⌜ outcome (r .answer) (now (image .entry)) (r .desk) (now (buffer .exit))
-            ≡ step (Read caller lun sel num (now (buffer .entry))) (state (now (image .entry)) self) ⌝ }
+        ensures { λ r. ⌜ Ensured (Read caller lun sel num (now (buffer .entry))) (state (now (image .entry)) self)
+            (r .answer) (now (image .entry)) (r .desk) (now (buffer .exit)) ⌝ }
     {
         let opened = self.open(image, caller, lun, sel, num, false);
         match opened {
@@ -48,8 +46,8 @@ impl Desk {
         num: u32,
         data: &[u8],
     ) -> Reply
-        ensures { λ r. ⌜ outcome (r .answer) (now (image .exit)) (r .desk) (now («data» .entry))
-            ≡ step (Write caller lun sel num (now («data» .entry))) (state (now (image .entry)) self) ⌝ }
+        ensures { λ r. ⌜ Ensured (Write caller lun sel num (now («data» .entry))) (state (now (image .entry)) self)
+            (r .answer) (now (image .exit)) (r .desk) (now («data» .entry)) ⌝ }
     {
         let opened = self.open(image, caller, lun, sel, num, true);
         match opened {
@@ -73,8 +71,8 @@ impl Desk {
         num: u32,
         data: &[u8],
     ) -> Reply
-        ensures { λ r. ⌜ outcome (r .answer) (now (image .exit)) (r .desk) (now («data» .entry))
-            ≡ step (Update caller lun sel num (now («data» .entry))) (state (now (image .entry)) self) ⌝ }
+        ensures { λ r. ⌜ Ensured (Update caller lun sel num (now («data» .entry))) (state (now (image .entry)) self)
+            (r .answer) (now (image .exit)) (r .desk) (now («data» .entry)) ⌝ }
     {
         let opened = self.open(image, caller, lun, sel, num, true);
         match opened {

@@ -3,7 +3,11 @@ pub mod AppendBytes
 pub mod AppendKeeps
 pub mod DeleteKeeps
 pub mod FormatSound
+pub mod FreeCounts
+pub mod FreedSectors
+pub mod NamesAfter
 pub mod OverwriteKeeps
 pub mod RecordsSame
 pub mod SlotFound
 pub mod SlotWritten
+pub mod KeptCount

@@ -1,6 +1,7 @@
 -- Demand 1 and the refusals of demand 2, from the law of lists of rules.
 use mathlib.Core.Path.{_≡_, refl, ap, sym, _∙_}
-use mathlib.Core.Bool.{true}
+use mathlib.Core.Bool.{true, false, not}
+use mathlib.Core.List.{List, _∷_}
 use mathlib.Core.Logic.{⊎-elim}
 use Prim.Native.Nat.{ℕ}
 use native.Mathlib.Omega.{arith}
@@ -8,13 +9,13 @@ use Rattle.lists.specs.Lists.{among, _or_}
 use Rattle.work.specs.declared.Refusal.{Refusal}
 use Rattle.work.specs.declared.Refusal.the-variants.{UnknownType, BadLun, NoRight, InUse, NoFile, BadRequest, BadLength, PastEnd, OutOfRange, OtherLength, Exists, NoRoom}
 use Rattle.work.specs.declared.Refusal.the-variants.{BadDescriptor, NoSegment, NameTaken, DirectoryFull, NotSound}
-use Rattle.work.specs.Refusals.{code}
+use Rattle.work.specs.Refusals.{code, Rule, _if_}
 use Rattle.desk.specs.declared.Answer.{Answer}
 use Rattle.desk.specs.declared.Answer.the-variants.{Done, Refused}
-use Rattle.desk.specs.Answers.{status, Outcome, moved}
-use Rattle.desk.specs.Calls.{step, Call, rules}
-use Rattle.desk.specs.Desk.{State}
-use Rattle.promises.specs.Answers.{statusTable, InTable, First, RefusedExactly, RefusalKeeps, OneOutcome}
+use Rattle.desk.specs.Answers.{status, Outcome, moved, outcome}
+use Rattle.desk.specs.Calls.{step, Call, rules, Format, Check, Allocate, Assign, Close, Rewind, Delete, Read, Write, Update, beginRules, openRules, assignRules, deleteRules}
+use Rattle.desk.specs.Desk.{State, ready}
+use Rattle.promises.specs.Answers.{statusTable, InTable, First, RefusedExactly, RefusalKeeps, UnreadyRefused, OneOutcome}
 use Rattle.promises.proofs.Passing.{refused-or-accepted, step-first, refusal}
 
 code-in-table : (r : Refusal) → among (code r) statusTable ≡ true
@@ -69,5 +70,36 @@ refusal-keeps c s r e =
       buffer-kept = ap (λ (o : Outcome). o .buffer) q;
     }
 
+-- all calls but format and check begin with the rule of a state that is not ready
+unready : (c : Call) (s : State) (rs : List Rule) → rules c s ≡ NotSound if not (ready s) ∷ rs → ready s ≡ false → step c s .answer ≡ Refused NotSound
+unready c s rs e h =
+    let first-rule : First (NotSound if not (ready s) ∷ rs) 0 NotSound = record {
+      inside = omega arith;
+      is-rule = refl;
+      applies = ap not h;
+      none-earlier = λ j l. absurd (omega arith);
+    } in
+    ap (λ (o : Outcome). o .answer) (step-first c s 0 NotSound (rw e first-rule))
+
+pub unready-refused : UnreadyRefused
+unfolding rules beginRules openRules assignRules deleteRules
+unready-refused (Format id n) s f k h = absurd (f id n refl)
+unready-refused Check s f k h = absurd (k refl)
+unready-refused (Allocate caller desc i n l) s f k h = unready (Allocate caller desc i n l) s _ refl h
+unready-refused (Assign caller lun desc mode end) s f k h = unready (Assign caller lun desc mode end) s _ refl h
+unready-refused (Close caller lun) s f k h = unready (Close caller lun) s _ refl h
+unready-refused (Rewind caller lun) s f k h = unready (Rewind caller lun) s _ refl h
+unready-refused (Delete caller desc) s f k h = unready (Delete caller desc) s _ refl h
+unready-refused (Read caller lun sel num buf) s f k h = unready (Read caller lun sel num buf) s _ refl h
+unready-refused (Write caller lun sel num bs) s f k h = unready (Write caller lun sel num bs) s _ refl h
+unready-refused (Update caller lun sel num bs) s f k h = unready (Update caller lun sel num bs) s _ refl h
+
 pub one-outcome : OneOutcome
-one-outcome c s o p a b = a ∙ sym b
+one-outcome c s a a′ img img′ d d′ buf buf′ e f =
+    let q : outcome a img d buf ≡ outcome a′ img′ d′ buf′ = e ∙ sym f in
+    record {
+      answers = ap (λ (o : Outcome). o .answer) q;
+      images = ap (λ (o : Outcome). o .image) q;
+      desks = ap (λ (o : Outcome). o .desk) q;
+      buffers = ap (λ (o : Outcome). o .buffer) q;
+    }

@@ -16,7 +16,6 @@ use Rattle.keeping.proofs.AppendBytes.{bytes-appended}
 use Rattle.keeping.proofs.AppendKeeps.{appended-changed, appended-sound, appended-entry, records-appended}
 use Rattle.work.specs.Transfers.{wrongLength, beyond}
 use Rattle.desk.specs.Desk.{State, fileOf, aimed}
-use Rattle.promises.specs.Sectors.{Good}
 use Rattle.promises.specs.Contents.{slotHeld}
 use Rattle.promises.proofs.Held.{entryOf, Held, held-by}
 use Rattle.promises.proofs.Told.{WriteTold}
@@ -41,13 +40,13 @@ pub record Appending (s : State) (lun i : ℕ) (bs : List ℕ) : Type 0 where
   pub enough : needed (s .image) (entryOf s lun) bs ≤ free (s .image)
   pub few : length (newPairs (s .image) (entryOf s lun) bs) ≤ mostSegments
 
-pub appending : (caller lun sel num : ℕ) (bs : List ℕ) (s : State) → Good s → WriteTold s caller lun sel num bs → contiguous (entryOf s lun) ≡ false
+pub appending : (caller lun sel num : ℕ) (bs : List ℕ) (s : State) → WriteTold s caller lun sel num bs → contiguous (entryOf s lun) ≡ false
     → Appending s lun (aimed s lun sel num) bs
 unfolding fileOf
-appending caller lun sel num bs s g T q =
+appending caller lun sel num bs s T q =
     let e : List ℕ = entryOf s lun in
     record {
-      held-file = held-by s caller lun g (T .opened .is-mine);
+      held-file = held-by s caller lun (T .opened .is-ready) (T .opened .is-mine);
       sequential = q;
       at-end = omega (arith, not-beyond (s .image) e (aimed s lun sel num) (length bs) q (T .inside), T .is-new q, extent-records (s .image) e q);
       fine = right-length e bs q (T .long-ok);
@@ -55,7 +54,7 @@ appending caller lun sel num bs s g T q =
       few = T .few q;
     }
 
-module _ (s : State) (g : Good s) (lun i : ℕ) (bs : List ℕ) (A : Appending s lun i bs) where
+module _ (s : State) (lun i : ℕ) (bs : List ℕ) (A : Appending s lun i bs) where
   abbrev v : List ℕ
   v = s .image
 
@@ -92,7 +91,7 @@ module _ (s : State) (g : Good s) (lun i : ℕ) (bs : List ℕ) (A : Appending s
     ws = _;
     changed = appended-changed v (H .facts-of) k (H .slot-in) (H .lun-ok .used) (A .sequential) bs (A .fine) (A .enough) (A .few);
     is-sound = appended-sound v (H .facts-of) k (H .slot-in) (H .lun-ok .used) (A .sequential) bs (A .fine) (A .enough) (A .few);
-    are-bytes = λ b. bytes-appended v (H .facts-of) k (H .slot-in) (H .lun-ok .used) (A .sequential) bs (A .fine) (A .enough) (A .few) (g .is-bytes) b;
+    are-bytes = λ bi b. bytes-appended v (H .facts-of) k (H .slot-in) (H .lun-ok .used) (A .sequential) bs (A .fine) (A .enough) (A .few) bi b;
     as-long = omega (arith, extent-after);
     place = place-one v′ e i (A .sequential) append-there;
     elsewhere = λ u l h.

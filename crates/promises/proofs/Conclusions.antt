@@ -1,7 +1,7 @@
 -- Hollow programs fall: to check, which has no rule; to an image that is no volume; to steps 2 and 6 of the small volume.
 use mathlib.Core.Path.{refl, _≡_, ap, sym, _∙_}
 use mathlib.Core.Bool.{false, true≢false, true}
-use mathlib.Core.List.{[], List, _∷_, _++_}
+use mathlib.Core.List.{[], List, _++_}
 use Prim.Native.Nat.{ℕ, _<_, _+_}
 use native.Mathlib.Omega.{arith}
 use lib.ListN.{take, getD, length, drop, length-take, List·getD-append, replicate}
@@ -19,7 +19,7 @@ use Rattle.desk.specs.declared.Answer.{Answer}
 use Rattle.desk.specs.declared.Answer.the-variants.{Done, Refused}
 use Rattle.promises.specs.Conclusions.{CheckCounts, NotAllRefused, NotAllDone, NotUnchanged, NotOnlyE}
 use Rattle.promises.specs.Answers.{First}
-use Rattle.promises.specs.Steps.{blank, service-open, Step, story, desc}
+use Rattle.promises.specs.Steps.{blank, service-open, calls, story, desc}
 use Rattle.promises.specs.Runs.{run, next}
 use Rattle.promises.proofs.Answers.{refused-first}
 
@@ -59,10 +59,6 @@ not-all-done p exactly h =
     omega arith
 
 -- the state of the small volume after the first n calls of the story
-calls : List Step → List Call
-calls [] = []
-calls (t ∷ ts) = t .call ∷ calls ts
-
 reached : ℕ → State
 reached n = run (take n (calls story)) blank
 

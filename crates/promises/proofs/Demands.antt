@@ -3,34 +3,50 @@ use Rattle.records.proofs.RecordStreams.{streamOf-injective}
 use Rattle.promises.specs.Steps.{small-volume}
 use Rattle.promises.specs.Table.{table-differs}
 use Rattle.promises.specs.Demands.{Demands}
-use Rattle.promises.proofs.Answers.{in-table, refusal-keeps, refused-exactly, one-outcome}
-use Rattle.promises.proofs.Sectors.{one-sector-each, no-system-sector, no-access-block, marked-exactly}
+use Rattle.promises.proofs.Answers.{in-table, refusal-keeps, refused-exactly, unready-refused, one-outcome}
+use Rattle.promises.proofs.Sectors.{in-order}
+use Rattle.promises.proofs.Formatted.{accepted-format}
+use Rattle.promises.proofs.Allocated.{accepted-allocate}
+use Rattle.promises.proofs.Deleted.{accepted-delete}
+use Rattle.promises.proofs.Seated.{accepted-assign, accepted-close, accepted-rewind}
+use Rattle.promises.proofs.Counts.{free-count}
 use Rattle.promises.proofs.Reading.{accepted-read}
 use Rattle.promises.proofs.Writing.{accepted-write}
 use Rattle.promises.proofs.Updating.{accepted-update}
-use Rattle.promises.proofs.Preserved.{stays-good, other-files-kept, others-kept}
-use Rattle.promises.proofs.Lasting.{lasts-over-runs, append-ends-none}
-use Rattle.promises.proofs.ReadBack.{written-is-read, written-sector-lasts}
+use Rattle.promises.proofs.Preserved.{stays-good, stays-sound, runs-are-visits, other-files-kept, others-kept, frame-kept}
+use Rattle.promises.proofs.Lasting.{lasts-through, append-ends-none}
+use Rattle.promises.proofs.ReadBack.{written-is-read, written-sector-is-read, updated-is-read}
+use Rattle.promises.proofs.NeverPastEnd.{never-past-end}
 use Rattle.promises.proofs.Conclusions.{not-all-refused, not-all-done, not-unchanged, not-only-E, check-counts}
 
 pub demands : Demands
 demands = record {
   in-table = in-table;
   refusal-keeps = refusal-keeps;
-  refused-exactly = refused-exactly;
+  accepted-format = accepted-format;
+  accepted-allocate = accepted-allocate;
+  accepted-assign = accepted-assign;
+  accepted-close = accepted-close;
+  accepted-rewind = accepted-rewind;
+  accepted-delete = accepted-delete;
+  accepted-read = accepted-read;
   accepted-write = accepted-write;
   accepted-update = accepted-update;
-  accepted-read = accepted-read;
+  free-count = free-count;
   other-files-kept = other-files-kept;
-  lasts-over-runs = lasts-over-runs;
+  frame-kept = frame-kept;
+  lasts-through = lasts-through;
   append-ends-none = append-ends-none;
   written-is-read = written-is-read;
-  written-sector-lasts = written-sector-lasts;
+  written-sector-is-read = written-sector-is-read;
+  updated-is-read = updated-is-read;
+  never-past-end = never-past-end;
+  runs-are-visits = runs-are-visits;
+  refused-exactly = refused-exactly;
+  unready-refused = unready-refused;
   stays-good = stays-good;
-  one-sector-each = one-sector-each;
-  no-system-sector = no-system-sector;
-  no-access-block = no-access-block;
-  marked-exactly = marked-exactly;
+  stays-sound = stays-sound;
+  sound-in-order = in-order;
   one-stream-each = streamOf-injective;
   others-kept = others-kept;
   one-outcome = one-outcome;

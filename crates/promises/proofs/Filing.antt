@@ -13,6 +13,7 @@ use Rattle.volume.specs.Volume.{inRange, dirs}
 use Rattle.volume.specs.Formatted.{formatted}
 use Rattle.volume.specs.Directory.{entries, entryAt, unused, named}
 use Rattle.volume.specs.Sat.{lowestRun}
+use Rattle.files.specs.Files.{sound}
 use Rattle.files.specs.Changes.{taken, deleted}
 use Rattle.files.proofs.allocation.Allocatable.{Allocatable, allocatable}
 use Rattle.keeping.proofs.FormatSound.{format-sound, format-bytes}
@@ -20,7 +21,7 @@ use Rattle.keeping.proofs.AllocateKeeps.{allocate-changed, allocate-sound, allo
 use Rattle.keeping.proofs.DeleteKeeps.{delete-changed, delete-sound, delete-bytes}
 use Rattle.luns.specs.declared.Lun.{Lun}
 use Rattle.luns.specs.Luns.{holdsSlot, isHeld}
-use Rattle.luns.proofs.Fitting.{fits-is, fitting}
+use Rattle.luns.proofs.Fitting.{fits-is}
 use Rattle.work.specs.Volumes.{exists, sized, newFile, slotOf}
 use Rattle.keeping.proofs.SlotFound.{slot-in}
 use Rattle.desk.specs.Desk.{state, emptyDesk, State}
@@ -28,53 +29,53 @@ use Rattle.desk.specs.Calls.{Everything, Nothing, OneFile}
 use Rattle.desk.proofs.DeskFitting.{empty-fitting}
 use Rattle.promises.specs.Sectors.{Bytes, Good}
 use Rattle.promises.specs.Touches.{changes, ends}
-use Rattle.promises.proofs.Held.{changed-fitting, any-lun}
+use Rattle.promises.proofs.Held.{changed-fitting, any-lun, ready-sound, ready-fitting}
 use Rattle.promises.proofs.Told.{FormatTold, AllocateTold, DeleteTold}
 use Rattle.promises.proofs.Preserving.{Preserves, preserves-change}
 
 -- Format: nothing is kept, but what it leaves is good
 pub good-formatted : (id : List ℕ) (d t : ℕ) → volumeId id ≡ true → inRange t d ≡ true → Bytes id → Good (state (formatted id d t) emptyDesk)
 good-formatted id d t hi hr b = record {
-  is-sound = format-sound id d t hi hr;
+  volume = record { is-sound = format-sound id d t hi hr; is-bytes = format-bytes id d t hi hr b };
   is-fitting = fits-is (formatted id d t) (emptyDesk .luns) (empty-fitting (formatted id d t));
-  is-bytes = format-bytes id d t hi hr b;
 }
 
 pub preserves-format : (id : List ℕ) (n : ℕ) (s : State) → FormatTold s id n → Preserves id Everything s (state (formatted id n (sectors (s .image))) emptyDesk)
 unfolding changes ends
 preserves-format id n s T = record {
-  good = good-formatted id n (sectors (s .image)) (T .good-id) (T .in-range);
+  sound-after = λ b h. good-formatted id n (sectors (s .image)) (T .good-id) (T .in-range) b .volume;
+  good-after = λ b h. good-formatted id n (sectors (s .image)) (T .good-id) (T .in-range) b;
+  frame = λ h. absurd (h refl);
   others = λ k f h. absurd (true≢false h);
   units = λ k i f l h. absurd (true≢false h);
 }
 
 -- Allocate: the slot was unused, so that it held no file, and no LUN holds it
-module _ (caller : ℕ) (desc : List ℕ) (k n l : ℕ) (s : State) (g : Good s) (T : AllocateTold s caller desc k n l) where
+module _ (caller : ℕ) (desc : List ℕ) (k n l : ℕ) (s : State) (T : AllocateTold s caller desc k n l) where
   abbrev slot : ℕ
   slot = index unused (entries (s .image))
 
-  can-allocate : Allocatable (s .image) slot desc k n l (lowestRun (taken k n) (s .image))
+  pub can-allocate : Allocatable (s .image) (index unused (entries (s .image))) desc k n l (lowestRun (taken k n) (s .image))
   unfolding exists sized
   can-allocate =
-      allocatable (s .image) desc k n l (g .is-sound) (T .entry-free) (T .described) (T .new-name) (T .kind-known) (T .sized-ok) (T .run-free)
+      allocatable (s .image) desc k n l (ready-sound s (T .is-ready)) (T .entry-free) (T .described) (T .new-name) (T .kind-known) (T .sized-ok) (T .run-free)
 
   new-slot : (j : ℕ) → unused (entryAt (s .image) j) ≡ false → j ≡ slot → ⊥
   new-slot j u p = true≢false (sym (can-allocate .slot-unused) ∙ ap (λ (i : ℕ). unused (entryAt (s .image) i)) (sym p) ∙ u)
 
-  good-allocated : Bytes desc → Good (state (newFile (s .image) desc k n l) (s .desk))
+  good-allocated : Bytes (s .image) → Bytes desc → Good (state (newFile (s .image) desc k n l) (s .desk))
   unfolding newFile
-  good-allocated b = record {
-    is-sound = allocate-sound can-allocate;
+  good-allocated bi b = record {
+    volume = record { is-sound = allocate-sound can-allocate; is-bytes = allocate-bytes can-allocate bi b };
     is-fitting = fits-is _ _ (changed-fitting (s .image) _ slot _ _ (allocate-changed can-allocate) (s .desk .luns) (λ u. true) (any-lun (s .desk .luns))
         (λ u h c o q. absurd (new-slot (u .slot) (o .used) q))
-        (fitting (s .image) (s .desk .luns) (g .is-fitting)));
-    is-bytes = allocate-bytes can-allocate (g .is-bytes) b;
+        (ready-fitting s (T .is-ready)));
   }
 
-  pub preserves-allocate : Preserves desc Nothing s (state (newFile (s .image) desc k n l) (s .desk))
+  pub preserves-allocate : Bytes (s .image) → Preserves desc Nothing s (state (newFile (s .image) desc k n l) (s .desk))
   unfolding newFile
-  preserves-allocate =
-      preserves-change s (state (newFile (s .image) desc k n l) (s .desk)) slot _ _ (allocate-changed can-allocate) desc Nothing good-allocated
+  preserves-allocate bi =
+      preserves-change s (state (newFile (s .image) desc k n l) (s .desk)) slot _ _ (allocate-changed can-allocate) desc Nothing (good-allocated bi)
       (λ j f h. new-slot j (f .used))
       (λ i f x h. absurd (new-slot slot (f .used) refl))
 
@@ -83,32 +84,35 @@ holds-it : (k : ℕ) (u : Lun) → u .held ≡ true → u .slot ≡ k → holdsS
 unfolding holdsSlot
 holds-it k u h q = both-true _ _ h (eq-eqb _ _ q)
 
-module _ (caller : ℕ) (desc : List ℕ) (s : State) (g : Good s) (T : DeleteTold s caller desc) where
-  slot-there : slotOf (s .image) desc < 8 * dirs (s .image)
+module _ (caller : ℕ) (desc : List ℕ) (s : State) (T : DeleteTold s caller desc) where
+  abbrev v : List ℕ
+  v = s .image
+
+  abbrev at : ℕ
+  at = slotOf v desc
+
+  pub slot-there : slotOf (s .image) desc < 8 * dirs (s .image)
   unfolding slotOf exists
-  slot-there = slot-in (s .image) (named desc) (T .named-file .found)
+  slot-there = slot-in v (named desc) (T .named-file .found)
 
-  nobody : all (λ u. not (holdsSlot (slotOf (s .image) desc) u)) (s .desk .luns) ≡ true
+  is-sound : sound v ≡ true
+  is-sound = ready-sound s (T .is-ready)
+
+  nobody : all (λ u. not (holdsSlot at u)) (s .desk .luns) ≡ true
   unfolding isHeld
-  nobody = none-all (holdsSlot (slotOf (s .image) desc)) (s .desk .luns) (T .not-held)
+  nobody = none-all (holdsSlot at) (s .desk .luns) (T .not-held)
 
-  good-deleted : Good (state (deleted (slotOf (s .image) desc) (s .image)) (s .desk))
-  good-deleted =
-      let v : List ℕ = s .image in
-      let k : ℕ = slotOf v desc in
-      record {
-        is-sound = delete-sound v k (g .is-sound) slot-there;
-        is-fitting = fits-is _ _ (changed-fitting v _ k _ _ (delete-changed v k (g .is-sound) slot-there) (s .desk .luns) (λ u. not (holdsSlot k u)) nobody
-            (λ u h c o q. absurd (true≢false (sym (holds-it k u h q) ∙ not-true _ c)))
-            (fitting v (s .desk .luns) (g .is-fitting)));
-        is-bytes = delete-bytes v k (g .is-sound) slot-there (g .is-bytes);
-      }
+  good-deleted : Bytes v → Good (state (deleted at v) (s .desk))
+  good-deleted bi = record {
+    volume = record { is-sound = delete-sound v at is-sound slot-there; is-bytes = delete-bytes v at is-sound slot-there bi };
+    is-fitting = fits-is _ _ (changed-fitting v _ at _ _ (delete-changed v at is-sound slot-there) (s .desk .luns) (λ u. not (holdsSlot at u)) nobody
+        (λ u h c o q. absurd (true≢false (sym (holds-it at u h q) ∙ not-true _ c)))
+        (ready-fitting s (T .is-ready)));
+  }
 
-  pub preserves-delete : Preserves desc (OneFile (slotOf (s .image) desc)) s (state (deleted (slotOf (s .image) desc) (s .image)) (s .desk))
+  pub preserves-delete : Bytes (s .image) → Preserves desc (OneFile (slotOf (s .image) desc)) s (state (deleted (slotOf (s .image) desc) (s .image)) (s .desk))
   unfolding changes ends
-  preserves-delete =
-      let v : List ℕ = s .image in
-      let k : ℕ = slotOf v desc in
-      preserves-change s (state (deleted k v) (s .desk)) k _ _ (delete-changed v k (g .is-sound) slot-there) desc (OneFile k) (λ b. good-deleted)
-      (λ j f h p. true≢false (sym (eq-eqb k j (sym p)) ∙ h))
-      (λ i f x h. absurd (true≢false (sym (eq-eqb k k refl) ∙ h)))
+  preserves-delete bi =
+      preserves-change s (state (deleted at v) (s .desk)) at _ _ (delete-changed v at is-sound slot-there) desc (OneFile at) (λ b. good-deleted bi)
+      (λ j f h p. true≢false (sym (eq-eqb at j (sym p)) ∙ h))
+      (λ i f x h. absurd (true≢false (sym (eq-eqb at at refl) ∙ h)))

@@ -11,21 +11,30 @@ use Rattle.lists.specs.Lists.{all, _and_}
 use Rattle.lists.proofs.Tests.{and-left, and-right}
 use Rattle.volume.specs.Directory.{entryAt}
 use Rattle.volume.specs.Volume.{dirs}
-use Rattle.files.specs.Files.{extent}
+use Rattle.files.specs.Files.{extent, sound}
 use Rattle.files.proofs.SoundFacts.{Facts, facts}
 use Rattle.files.proofs.UsedSlots.{used-slot}
 use Rattle.files.proofs.OneFileChanged.{Changed, entry-other, file-other, entry-here}
 use Rattle.keeping.proofs.RecordsSame.{extent-same}
 use Rattle.luns.specs.declared.Lun.{Lun}
 use Rattle.luns.proofs.Fitting.{Fitted, Fitting, fitting, fitting-kept}
-use Rattle.desk.specs.Desk.{State, lunAt, mine}
+use Rattle.desk.specs.Desk.{State, lunAt, mine, ready}
 use Rattle.desk.proofs.DeskFitting.{lun-fits}
 use Rattle.promises.specs.Contents.{slotHeld}
-use Rattle.promises.specs.Sectors.{Good}
 
 -- the entry behind a LUN: `fileOf`, seen through
 abbrev pub entryOf : State → ℕ → List ℕ
 entryOf s lun = entryAt (s .image) (slotHeld s lun)
+
+-- what the first rule of a call tells, if it passes
+module _ (s : State) (h : ready s ≡ true) where
+  pub ready-sound : sound (s .image) ≡ true
+  unfolding ready
+  ready-sound = and-left _ _ h
+
+  pub ready-fitting : Fitting (s .image) (s .desk .luns)
+  unfolding ready
+  ready-fitting = fitting (s .image) (s .desk .luns) (and-right _ _ h)
 
 pub record Held (s : State) (lun : ℕ) : Type 0 where
   pub facts-of : Facts (s .image)
@@ -35,16 +44,16 @@ pub record Held (s : State) (lun : ℕ) : Type 0 where
   pub lun-ok : Fitted (s .image) (lunAt (s .desk) lun)
   pub slot-in : slotHeld s lun < 8 * dirs (s .image)
 
-pub held-by : (s : State) (caller lun : ℕ) → Good s → mine (s .desk) caller lun ≡ true → Held s lun
+pub held-by : (s : State) (caller lun : ℕ) → ready s ≡ true → mine (s .desk) caller lun ≡ true → Held s lun
 unfolding mine
-held-by s caller lun g m =
+held-by s caller lun r m =
     let a = and-left _ _ m in
     let l : lun < lunCount = ltb-true _ _ (and-right _ _ (and-left _ _ a)) in
     let h : lunAt (s .desk) lun .held ≡ true = and-right _ _ a in
-    let f = fitting (s .image) (s .desk .luns) (g .is-fitting) in
+    let f = ready-fitting s r in
     let o = lun-fits (s .image) (s .desk) lun l h f in
     record {
-      facts-of = facts (s .image) (g .is-sound);
+      facts-of = facts (s .image) (ready-sound s r);
       fits-of = f;
       lun-in = l;
       is-held = h;

@@ -5,6 +5,7 @@ pub mod Names
 pub mod Units
 pub mod PlacesExist
 pub mod Held
+pub mod OneLun
 pub mod Preserving
 pub mod Filing
 pub mod Seating
@@ -13,9 +14,15 @@ pub mod Appending
 pub mod Overwriting
 pub mod Updating
 pub mod Writing
+pub mod Sectors
 pub mod Preserved
 pub mod Lasting
 pub mod ReadBack
-pub mod Sectors
+pub mod NeverPastEnd
 pub mod Conclusions
+pub mod Formatted
+pub mod Allocated
+pub mod Deleted
+pub mod Seated
+pub mod Counts
 pub mod Demands

@@ -14,7 +14,6 @@ use Rattle.files.specs.Changes.{overwritten}
 use Rattle.keeping.proofs.OverwriteKeeps.{overwritten-changed, overwritten-sound, overwritten-entry, overwritten-read, overwritten-others, bytes-overwritten}
 use Rattle.work.specs.Transfers.{oddLength, wrongLength, beyond}
 use Rattle.desk.specs.Desk.{State, fileOf, aimed}
-use Rattle.promises.specs.Sectors.{Good}
 use Rattle.promises.specs.Contents.{unitOf, slotHeld}
 use Rattle.promises.proofs.Units.{extent-run, unit-sector, sector-of}
 use Rattle.promises.proofs.PlacesExist.{Sectored, sectored, place-run}
@@ -40,17 +39,17 @@ pub record Overwriting (s : State) (lun i : ℕ) (bs : List ℕ) : Type 0 where
   pub in-sectors : Sectored (length bs)
   pub inside : i + length bs / 256 ≤ size (entryOf s lun)
 
-pub overwriting : (caller lun sel num : ℕ) (bs : List ℕ) (s : State) → Good s → WriteTold s caller lun sel num bs → contiguous (entryOf s lun) ≡ true
+pub overwriting : (caller lun sel num : ℕ) (bs : List ℕ) (s : State) → WriteTold s caller lun sel num bs → contiguous (entryOf s lun) ≡ true
     → Overwriting s lun (aimed s lun sel num) bs
 unfolding fileOf
-overwriting caller lun sel num bs s g T q = record {
-  held-file = held-by s caller lun g (T .opened .is-mine);
+overwriting caller lun sel num bs s T q = record {
+  held-file = held-by s caller lun (T .opened .is-ready) (T .opened .is-mine);
   runs = q;
   in-sectors = sectored (length bs) (run-length (entryOf s lun) bs q (T .long-ok));
   inside = not-across (s .image) (entryOf s lun) (aimed s lun sel num) (length bs) q (T .inside);
 }
 
-module _ (s : State) (g : Good s) (lun i : ℕ) (bs : List ℕ) (O : Overwriting s lun i bs) where
+module _ (s : State) (lun i : ℕ) (bs : List ℕ) (O : Overwriting s lun i bs) where
   abbrev v : List ℕ
   v = s .image
 
@@ -84,7 +83,7 @@ module _ (s : State) (g : Good s) (lun i : ℕ) (bs : List ℕ) (O : Overwriting
     ws = _;
     changed = overwritten-changed v (H .facts-of) k (H .slot-in) (H .lun-ok .used) (O .runs) i n bs (O .inside) (O .in-sectors .whole);
     is-sound = overwritten-sound v (H .facts-of) k (H .slot-in) (H .lun-ok .used) (O .runs) i n bs (O .inside) (O .in-sectors .whole);
-    are-bytes = λ b. bytes-overwritten e i bs v b (g .is-bytes);
+    are-bytes = λ bi b. bytes-overwritten e i bs v b bi;
     as-long = omega (arith, extent-run v e (O .runs), extent-run v′ e (O .runs));
     place = place-run v′ e i n (O .runs) (O .in-sectors .some) (O .in-sectors .few) (O .inside);
     elsewhere = λ u l h.

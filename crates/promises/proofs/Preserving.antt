@@ -9,6 +9,7 @@ use native.Mathlib.Omega.{arith}
 use borrow.Author.Tests.{eq-eqb, le-leb, lt-ltb}
 use Rattle.lists.proofs.Tests.{both-true}
 use Rattle.volume.specs.Directory.{entryAt}
+use Rattle.volume.proofs.LayoutKept.{keeps-trailer}
 use Rattle.files.specs.Files.{extent, sound}
 use Rattle.files.proofs.OneFileChanged.{Changed, entry-other, file-other, entry-here}
 use Rattle.keeping.proofs.RecordsSame.{records-same}
@@ -17,51 +18,77 @@ use Rattle.luns.specs.Luns.{placeExists, movedTo}
 use Rattle.luns.proofs.Fitting.{Fitting, fits-is}
 use Rattle.work.specs.Transfers.{Moving}
 use Rattle.desk.specs.Desk.{State, state, lunAt, putLun}
-use Rattle.desk.specs.Calls.{Touch, after, Units}
+use Rattle.desk.specs.Calls.{Touch, after, Units, Everything}
 use Rattle.desk.specs.declared.Desk.{Desk}
 use Rattle.desk.proofs.DeskFitting.{moved-fitting}
 use Rattle.promises.specs.Touches.{changes, ends}
-use Rattle.promises.specs.Sectors.{Bytes, Good, File, SameFile}
+use Rattle.promises.specs.Sectors.{Bytes, Sound, Good, File}
 use Rattle.promises.specs.Lasting.{Lasting}
-use Rattle.promises.specs.Contents.{unitOf, slotHeld}
-use Rattle.promises.proofs.Units.{same-file, lasting-image, lasting-same, lasting-by}
+use Rattle.promises.specs.Contents.{unitOf, slotHeld, SameFile, SameFrame}
+use Rattle.promises.proofs.Units.{same-file, same-frame, lasting-image, lasting-same, lasting-by}
 use Rattle.promises.proofs.Held.{entryOf, Held, grown-fitting}
 
--- From s to t, by a call that was sent bs and touches w: t is good, files outside w are the same, units outside w hold what they held
+-- From s to t, by a call that was sent bs and touches w: a sound volume stays sound, a good state good, files outside w are the same, units
+-- outside w hold what they held, and unless w is everything the frame stays
 pub record Preserves (bs : List ℕ) (w : Touch) (s t : State) : Type 0 where
-  pub good : Bytes bs → Good t
-  pub others : (k : ℕ) → File s k → changes w k ≡ false → SameFile s t k
-  pub units : (k i : ℕ) → File s k → i < extent (s .image) (entryAt (s .image) k) → ends w k i ≡ false → Lasting s t k i
+  pub sound-after : Bytes bs → Sound (s .image) → Sound (t .image)
+  pub good-after : Bytes bs → Good s → Good t
+  pub others : (k : ℕ) → File (s .image) k → changes w k ≡ false → SameFile (s .image) (t .image) k
+  pub units : (k i : ℕ) → File (s .image) k → i < extent (s .image) (entryAt (s .image) k) → ends w k i ≡ false → Lasting (s .image) (t .image) k i
+  pub frame : w ≢ Everything → SameFrame (s .image) (t .image)
 
 -- the image stays
-pub preserves-desk : (bs : List ℕ) (w : Touch) (s : State) (d : Desk) → Good s → Fitting (s .image) (d .luns) → Preserves bs w s (state (s .image) d)
-preserves-desk bs w s d g f = record {
-  good = λ b. record { is-sound = g .is-sound; is-fitting = fits-is (s .image) (d .luns) f; is-bytes = g .is-bytes };
-  others = λ k file h. same-file s (state (s .image) d) k refl;
-  units = λ k i file l h. lasting-image s (state (s .image) d) k i refl l;
+pub preserves-desk : (bs : List ℕ) (w : Touch) (s : State) (d : Desk) → (Good s → Good (state (s .image) d)) → Preserves bs w s (state (s .image) d)
+preserves-desk bs w s d g = record {
+  sound-after = λ b h. h;
+  good-after = λ b. g;
+  others = λ k file h. same-file (s .image) k;
+  units = λ k i file l h. lasting-image (s .image) k i l;
+  frame = λ n. same-frame (s .image);
 }
+
+-- .. and the LUNs still fit
+pub good-desk : (s : State) (d : Desk) → Good s → Fitting (s .image) (d .luns) → Good (state (s .image) d)
+good-desk s d g f = record { volume = g .volume; is-fitting = fits-is (s .image) (d .luns) f }
 
 -- one slot's file changes
 module _ (s t : State) (j : ℕ) (e ws : List ℕ) (C : Changed (s .image) (t .image) j e ws) where
-  same-other : (k : ℕ) → File s k → k ≢ j → SameFile s t k
+  abbrev v : List ℕ
+  v = s .image
+
+  abbrev v′ : List ℕ
+  v′ = t .image
+
+  same-other : (k : ℕ) → File v k → k ≢ j → SameFile v v′ k
   same-other k f n =
-      let S = file-other (s .image) (t .image) j e ws C k (f .slot) n (f .used) in
+      let S = file-other v v′ j e ws C k (f .slot) n (f .used) in
       record {
-        entry-same = entry-other (s .image) (t .image) j e ws C k n;
+        entry-same = entry-other v v′ j e ws C k n;
+        block-same = S .block-same (f .used);
         places-same = S .logical-same;
         bytes-same = S .stored-same;
-        records-same = records-same (s .image) (t .image) (entryAt (s .image) k) S (f .used);
+        records-same = records-same v v′ (entryAt v k) S (f .used);
       }
 
-  pub preserves-change : (bs : List ℕ) (w : Touch) → (Bytes bs → Good t) → ((k : ℕ) → File s k → changes w k ≡ false → k ≢ j)
-      → ((i : ℕ) → File s j → i < extent (s .image) (entryAt (s .image) j) → ends w j i ≡ false → Lasting s t j i) → Preserves bs w s t
+  same-around : SameFrame v v′
+  same-around = record {
+    as-long = C .keeps .long;
+    vid-same = C .keeps .at 0 (C .vid-out);
+    trailer-same = keeps-trailer ws v v′ (C .keeps) (C .last-out);
+  }
+
+  pub preserves-change : (bs : List ℕ) (w : Touch) → (Bytes bs → Good t) → ((k : ℕ) → File (s .image) k → changes w k ≡ false → k ≢ j)
+      → ((i : ℕ) → File (s .image) j → i < extent (s .image) (entryAt (s .image) j) → ends w j i ≡ false → Lasting (s .image) (t .image) j i)
+      → Preserves bs w s t
   preserves-change bs w g apart here = record {
-    good = g;
+    sound-after = λ b h. g b .volume;
+    good-after = λ b h. g b;
     others = λ k f h. same-other k f (apart k f h);
     units = λ k i. elim (ℕ-discrete k j) [
-      | yes p ↦ subst (λ (m : ℕ). File s m → i < extent (s .image) (entryAt (s .image) m) → ends w m i ≡ false → Lasting s t m i) (sym p) (here i)
-      | no n ↦ λ f l h. lasting-same s t k i (same-other k f n) l
+      | yes p ↦ subst (λ (m : ℕ). File v m → i < extent v (entryAt v m) → ends w m i ≡ false → Lasting v v′ m i) (sym p) (here i)
+      | no n ↦ λ f l h. lasting-same v v′ k i (same-other k f n) l
     ];
+    frame = λ n. same-around;
   }
 
 -- A transfer to the file behind a LUN: what it makes of the volume, where it touches n units from i on
@@ -69,7 +96,7 @@ pub record Rewrites (s : State) (lun : ℕ) (bs v′ : List ℕ) (i n : ℕ) : T
   pub ws : List ℕ
   pub changed : Changed (s .image) v′ (slotHeld s lun) (entryOf s lun) ws
   pub is-sound : sound v′ ≡ true
-  pub are-bytes : Bytes bs → Bytes v′
+  pub are-bytes : Bytes (s .image) → Bytes bs → Bytes v′
   pub as-long : extent (s .image) (entryOf s lun) ≤ extent v′ (entryOf s lun)
   pub place : placeExists v′ (entryOf s lun) (At i n) ≡ true
   pub elsewhere : (u : ℕ) → u < extent (s .image) (entryOf s lun) → (u + 1 ≤ i) ⊎ (i + n ≤ u)
@@ -98,23 +125,22 @@ off-units j i n u h = elim (decLt u i) [
   ]
 ]
 
-module _ (s : State) (lun : ℕ) (bs v′ : List ℕ) (i n : ℕ) (H : Held s lun) (R : Rewrites s lun bs v′ i n) where
+module _ (s : State) (bi : Bytes (s .image)) (lun : ℕ) (bs v′ : List ℕ) (i n : ℕ) (H : Held s lun) (R : Rewrites s lun bs v′ i n) where
   same-entry : entryAt v′ (slotHeld s lun) ≡ entryOf s lun
   same-entry = entry-here (s .image) v′ (slotHeld s lun) (entryOf s lun) (R .ws) (R .changed)
 
-  good-after : Bytes bs → Good (movedOn s lun v′ i n)
-  good-after b =
+  good-moved : Bytes bs → Good (movedOn s lun v′ i n)
+  good-moved b =
       let f = grown-fitting (s .image) v′ (slotHeld s lun) (R .ws) (R .changed) (R .as-long) (s .desk .luns) (H .fits-of) in
       record {
-        is-sound = R .is-sound;
+        volume = record { is-sound = R .is-sound; is-bytes = R .are-bytes bi b };
         is-fitting = fits-is v′ _ (moved-fitting v′ (s .desk) lun (At i n) (H .lun-in) (H .is-held) (rw same-entry (R .place)) f);
-        is-bytes = R .are-bytes b;
       }
 
   pub preserves-rewrite : Preserves bs (Units (slotHeld s lun) i n) s (movedOn s lun v′ i n)
   preserves-rewrite =
-      preserves-change s (movedOn s lun v′ i n) (slotHeld s lun) (entryOf s lun) (R .ws) (R .changed) bs (Units (slotHeld s lun) i n) good-after
+      preserves-change s (movedOn s lun v′ i n) (slotHeld s lun) (entryOf s lun) (R .ws) (R .changed) bs (Units (slotHeld s lun) i n) good-moved
       (λ k f h. off-slot (slotHeld s lun) i n k h)
       (λ u f l h.
-      lasting-by s (movedOn s lun v′ i n) (slotHeld s lun) u same-entry (omega (arith, R .as-long))
+      lasting-by (s .image) v′ (slotHeld s lun) u same-entry (omega (arith, R .as-long))
       (R .elsewhere u l (off-units (slotHeld s lun) i n u h)))

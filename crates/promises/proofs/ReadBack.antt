@@ -1,37 +1,64 @@
--- What was written is read back: the accepted write, the run between, and the accepted read together.
+-- What was written is read back: the accepted write or update, the visits between, and the accepted read together.
 use mathlib.Core.Path.{_≡_, ap, sym, _∙_}
 use mathlib.Core.Bool.{true, false}
-use mathlib.Core.List.{List}
-use Prim.Native.Nat.{ℕ, _+_, _*_, _/_, _<_}
+use mathlib.Core.List.{List, [], _++_}
+use Prim.Native.Nat.{ℕ, _+_, _*_, _/_, _<_, _≤_}
 use native.Mathlib.Omega.{arith}
-use lib.ListN.{length, length-append}
+use lib.ListN.{length, length-append, length-set, length-drop, getD, take, drop}
+use lib.Seq.{getD-set-same, drop-append-le, take-append-le}
 use Rattle.lists.specs.Parts.{part, over}
 use Rattle.volume.specs.Directory.{entryAt, unused, contiguous}
-use Rattle.files.specs.Files.{extent}
-use Rattle.files.proofs.UsedSlots.{used-slot}
+use Rattle.files.specs.Files.{extent, records, recordAt}
 use Rattle.desk.specs.Desk.{State, aimed, fileOf}
-use Rattle.desk.specs.Answers.{accepts}
-use Rattle.desk.specs.Calls.{Call, Write, step, sent}
+use Rattle.desk.specs.Answers.{moved}
+use Rattle.desk.specs.Calls.{Call, Write, Update, Read, step, sent}
 use Rattle.desk.specs.declared.Report.the-variants.{Moved}
 use Rattle.desk.specs.declared.Answer.the-variants.{Done}
-use Rattle.promises.specs.Runs.{next}
-use Rattle.promises.specs.Sectors.{Bytes, Good, File}
-use Rattle.promises.specs.Contents.{unitOf, unitAt, slotHeld, Wrote}
-use Rattle.promises.specs.Lasting.{Lasting, Between, WrittenIsRead, WrittenSectorLasts}
+use Rattle.promises.specs.Runs.{Visit}
+use Rattle.promises.specs.Sectors.{Bytes, Sound, Accepts}
+use Rattle.promises.specs.Contents.{unitOf, unitAt, slotHeld, Wrote, Updated}
+use Rattle.promises.specs.Lasting.{Lasting, Between, WrittenIsRead, UpdatedIsRead, WrittenSectorIsRead}
 use Rattle.promises.proofs.Passing.{accepted}
-use Rattle.promises.proofs.Told.{WriteTold, write-told}
+use Rattle.promises.proofs.Told.{WriteTold, write-told, update-told}
 use Rattle.promises.proofs.Units.{extent-run, extent-records, unit-record, record-last, file-after}
-use Rattle.promises.proofs.Held.{entryOf}
+use Rattle.promises.proofs.Held.{entryOf, ready-sound, held-by, Held}
 use Rattle.promises.proofs.Overwriting.{Overwriting, overwriting}
 use Rattle.promises.proofs.Appending.{Appending, appending}
 use Rattle.promises.proofs.Writing.{accepted-write}
-use Rattle.promises.proofs.Preserved.{good-next, good-run}
-use Rattle.promises.proofs.Lasting.{lasts-over-runs}
+use Rattle.promises.proofs.Updating.{accepted-update}
+use Rattle.promises.proofs.Preserved.{sound-next}
+use Rattle.promises.proofs.Lasting.{lasts-through}
 use Rattle.promises.proofs.Reading.{accepted-read}
 
-module _ (s : State) (g : Good s) (caller lun sel num : ℕ) (bs : List ℕ) (b : Bytes bs) (h : accepts (step (Write caller lun sel num bs) s .answer) ≡ true) where
+-- a unit after a call, still there after the visits between
+still : (v v′ : List ℕ) (k i : ℕ) → unused (entryAt v k) ≡ false → entryAt v′ k ≡ entryAt v k → Sound v′ → i < extent v′ (entryAt v k)
+    → (vs : List Visit) (w : List ℕ) → Between v′ k i vs w → (entryAt w k ≡ entryAt v k) × (unitAt w k i ≡ unitAt v′ k i)
+still v v′ k i u e h x vs w B =
+    let L : Lasting v′ w k i =
+    rw (B .reached) (lasts-through v′ h k i (file-after v v′ k u e) (rw (sym e) at x) vs (B .are-bytes) (B .nothing-ends-it)) in
+    (L .same-entry ∙ e, L .same-unit)
+
+-- a read of a record that is there
+record-read : (t : State) (k i : ℕ) (e bs : List ℕ) → entryAt (t .image) k ≡ e → contiguous e ≡ false → unitAt (t .image) k i ≡ bs
+    → (caller lun sel num : ℕ) (buf : List ℕ) → Accepts (Read caller lun sel num buf) t → slotHeld t lun ≡ k → aimed t lun sel num ≡ i
+    → (step (Read caller lun sel num buf) t .buffer ≡ over bs buf) × (step (Read caller lun sel num buf) t .answer ≡ Done (Moved (length bs)))
+unfolding fileOf
+record-read t k i e bs same q u caller lun sel num buf r ek ei =
+    let R = accepted-read t caller lun sel num buf r in
+    let its : entryOf t lun ≡ e = ap (entryAt (t .image)) ek ∙ same in
+    let is : R .0 ≡ bs =
+    R .1 .one-record (ap contiguous its ∙ q) .0
+    ∙ ap (λ (m : ℕ). unitAt (t .image) m (aimed t lun sel num)) ek
+    ∙ ap (unitAt (t .image) k) ei
+    ∙ u in
+    (R .1 .buffer-has ∙ ap (λ (x : List ℕ). over x buf) is, R .1 .answered ∙ ap (λ (x : List ℕ). Done (Moved (length x))) is)
+
+module _ (s : State) (bi : Bytes (s .image)) (caller lun sel num : ℕ) (bs : List ℕ) (b : Bytes bs) (h : Accepts (Write caller lun sel num bs) s) where
   abbrev c : Call
   c = Write caller lun sel num bs
+
+  abbrev v′ : List ℕ
+  v′ = step c s .image
 
   abbrev k : ℕ
   k = slotHeld s lun
@@ -42,68 +69,101 @@ module _ (s : State) (g : Good s) (caller lun sel num : ℕ) (bs : List ℕ) (b 
   abbrev i : ℕ
   i = aimed s lun sel num
 
-  wrote : Wrote s (next c s) k i bs
-  wrote = accepted-write s g caller lun sel num bs b h
+  wrote : Wrote s (step c s) lun i bs
+  wrote = accepted-write s caller lun sel num bs h
 
   told : WriteTold s caller lun sel num bs
   told = write-told caller lun sel num bs s (accepted c s h)
 
-  good-after : Good (next c s)
+  sound-after : Sound v′
   unfolding sent
-  good-after = good-next c s g b
-
-  -- the unit written, still there after the calls between
-  still : (j : ℕ) → unused e ≡ false → i + j < extent (next c s .image) e → (cs : List Call) (t : State) → Between (next c s) k (i + j) cs t
-      → Lasting (next c s) t k (i + j)
-  still j u x cs t B =
-      let file : File (next c s) k = file-after s (next c s) k (record { slot = used-slot (s .image) k u; used = u }) (wrote .file-same) in
-      rw (B .reached) (lasts-over-runs (next c s) good-after k (i + j) file (rw (sym (wrote .file-same)) at x) cs (B .are-bytes) (B .nothing-ends-it))
+  sound-after = sound-next c s (record { is-sound = ready-sound s (told .opened .is-ready); is-bytes = bi }) b
 
   -- the record appended
   module _ (q : contiguous (entryOf s lun) ≡ false) where
     A : Appending s lun i bs
-    A = appending caller lun sel num bs s g told q
+    A = appending caller lun sel num bs s told q
 
-    unit-appended : unitAt (next c s) k i ≡ bs
+    unit-appended : unitAt v′ k i ≡ bs
+    unfolding fileOf
     unit-appended =
-        ap (λ (x : List ℕ). unitOf (next c s .image) x i) (wrote .file-same)
-        ∙ unit-record (next c s .image) e i q
-        ∙ record-last (s .image) (next c s .image) e i bs (wrote .appended-record q .0) (wrote .appended-record q .1)
+        ap (λ (x : List ℕ). unitOf v′ x i) (wrote .entry-same)
+        ∙ unit-record v′ e i q
+        ∙ record-last (s .image) v′ e i bs (wrote .appended-record q .0) (wrote .appended-record q .1)
 
-    record-there : i + 0 < extent (next c s .image) e
-    record-there =
-        omega (arith, A .at-end, extent-records (next c s .image) e q, simp length-append at (ap length (wrote .appended-record q .1)))
+    record-there : i < extent v′ e
+    unfolding fileOf
+    record-there = omega (arith, A .at-end, extent-records v′ e q, simp length-append at (ap length (wrote .appended-record q .1)))
 
-    pub record-still : (cs : List Call) (t : State) → Between (next (Write caller lun sel num bs) s) (slotHeld s lun) (aimed s lun sel num) cs t
-        → (entryAt (t .image) (slotHeld s lun) ≡ entryOf s lun) × (unitAt t (slotHeld s lun) (aimed s lun sel num) ≡ bs)
-    record-still cs t B =
-        let z : i + 0 ≡ i = omega arith in
-        let L : Lasting (next c s) t k i = rw z at (still 0 (A .held-file .lun-ok .used) record-there cs t (rw (sym z) at B)) in
-        (L .same-entry ∙ wrote .file-same, L .same-unit ∙ unit-appended)
+    pub record-still : (vs : List Visit) (w : List ℕ) → Between (step (Write caller lun sel num bs) s .image) (slotHeld s lun) (aimed s lun sel num) vs w
+        → (entryAt w (slotHeld s lun) ≡ entryOf s lun) × (unitAt w (slotHeld s lun) (aimed s lun sel num) ≡ bs)
+    unfolding fileOf
+    record-still vs w B =
+        let S = still (s .image) v′ k i (A .held-file .lun-ok .used) (wrote .entry-same) sound-after record-there vs w B in
+        (S .0, S .1 ∙ unit-appended)
 
   -- a sector written
-  pub sector-still : contiguous (entryOf s lun) ≡ true → (j : ℕ) → j < length bs / 256 → (cs : List Call) (t : State)
-      → Between (next (Write caller lun sel num bs) s) (slotHeld s lun) (aimed s lun sel num + j) cs t
-      → unitAt t (slotHeld s lun) (aimed s lun sel num + j) ≡ part (256 * j) 256 bs
-  sector-still q j l cs t B =
-      let O : Overwriting s lun i bs = overwriting caller lun sel num bs s g told q in
-      let x : i + j < extent (next c s .image) e = omega (arith, O .inside, extent-run (next c s .image) e q) in
-      still j (O .held-file .lun-ok .used) x cs t B .same-unit ∙ wrote .sectors-written q j l
+  pub sector-still : contiguous (entryOf s lun) ≡ true → (j : ℕ) → j < length bs / 256 → (vs : List Visit) (w : List ℕ)
+      → Between (step (Write caller lun sel num bs) s .image) (slotHeld s lun) (aimed s lun sel num + j) vs w
+      → (entryAt w (slotHeld s lun) ≡ entryOf s lun) × (unitAt w (slotHeld s lun) (aimed s lun sel num + j) ≡ part (256 * j) 256 bs)
+  unfolding fileOf
+  sector-still q j l vs w B =
+      let O : Overwriting s lun i bs = overwriting caller lun sel num bs s told q in
+      let x : i + j < extent v′ e = omega (arith, O .inside, extent-run v′ e q) in
+      let S = still (s .image) v′ k (i + j) (O .held-file .lun-ok .used) (wrote .entry-same) sound-after x vs w B in
+      (S .0, S .1 ∙ ap (λ (x : List ℕ). unitOf v′ x (i + j)) (wrote .entry-same) ∙ wrote .sectors-written q j l)
 
 pub written-is-read : WrittenIsRead
 unfolding fileOf
-written-is-read s g caller lun sel num bs b h q cs t B caller′ lun′ sel′ num′ buf r ek ei =
-    let S = record-still s g caller lun sel num bs b h q cs t B in
-    let gt : Good t = rw (B .reached) (good-run cs (next (Write caller lun sel num bs) s) (good-after s g caller lun sel num bs b h) (B .are-bytes)) in
-    let R = accepted-read t gt caller′ lun′ sel′ num′ buf r in
-    let same : entryOf t lun′ ≡ entryOf s lun = ap (entryAt (t .image)) ek ∙ S .0 in
-    let u : R .0 ≡ bs =
-    R .3 (ap contiguous same ∙ q)
-    ∙ ap (λ (m : ℕ). unitAt t m (aimed t lun′ sel′ num′)) ek
-    ∙ ap (unitAt t (slotHeld s lun)) ei
-    ∙ S .1 in
-    (R .1 ∙ ap (λ (x : List ℕ). over x buf) u, R .2 ∙ ap (λ (x : List ℕ). Done (Moved (length x))) u)
+written-is-read s bi caller lun sel num bs b h q vs t B caller′ lun′ sel′ num′ buf r ek ei =
+    let S = record-still s bi caller lun sel num bs b h q vs (t .image) B in
+    record-read t (slotHeld s lun) (aimed s lun sel num) (entryOf s lun) bs (S .0) q (S .1) caller′ lun′ sel′ num′ buf r ek ei
 
-pub written-sector-lasts : WrittenSectorLasts
+-- the record updated
+pub updated-is-read : UpdatedIsRead
+unfolding sent recordAt fileOf
+updated-is-read s bi caller lun sel num bs b h vs t B caller′ lun′ sel′ num′ buf r ek ei =
+    let c : Call = Update caller lun sel num bs in
+    let k : ℕ = slotHeld s lun in
+    let i : ℕ = aimed s lun sel num in
+    let e : List ℕ = entryOf s lun in
+    let v′ : List ℕ = step c s .image in
+    let T = update-told caller lun sel num bs s (accepted c s h) in
+    let H : Held s lun = held-by s caller lun (T .opened .is-ready) (T .opened .is-mine) in
+    let U : Updated s (step c s) lun i bs = accepted-update s bi caller lun sel num bs h in
+    let q : contiguous e ≡ false = U .sequential in
+    let there : i < extent v′ e =
+    omega (arith, U .there, extent-records v′ e q, ap length (U .replaced), length-set (records (s .image) e) i bs) in
+    let sound-after : Sound v′ = sound-next c s (record { is-sound = ready-sound s (T .opened .is-ready); is-bytes = bi }) b in
+    let S = still (s .image) v′ k i (H .lun-ok .used) (U .entry-same) sound-after there vs (t .image) B in
+    let new : unitAt v′ k i ≡ bs =
+    ap (λ (x : List ℕ). unitOf v′ x i) (U .entry-same)
+    ∙ unit-record v′ e i q
+    ∙ ap (λ (rs : List (List ℕ)). getD rs i []) (U .replaced)
+    ∙ getD-set-same (records (s .image) e) i bs [] (U .there) in
+    record-read t k i e bs (S .0) q (S .1 ∙ new) caller′ lun′ sel′ num′ buf r ek ei
+
+-- a sector of a buffer that begins with what was handed over
+sector-over : (a : ℕ) (bs buf : List ℕ) → 256 * a + 256 ≤ length bs → part (256 * a) 256 (over bs buf) ≡ part (256 * a) 256 bs
+unfolding over part
+sector-over a bs buf h =
+    let d : drop (256 * a) (bs ++ drop (length bs) buf) ≡ drop (256 * a) bs ++ drop (length bs) buf =
+    drop-append-le (256 * a) bs (drop (length bs) buf) (omega arith) in
+    ap (take 256) d ∙ take-append-le 256 (drop (256 * a) bs) (drop (length bs) buf) (simp length-drop (omega arith))
+
+pub written-sector-is-read : WrittenSectorIsRead
 unfolding fileOf
-written-sector-lasts s g caller lun sel num bs b h q j l cs t B = sector-still s g caller lun sel num bs b h q j l cs t B
+written-sector-is-read s bi caller lun sel num bs b h q j l vs t B caller′ lun′ sel′ num′ buf r ek a ei m =
+    let k : ℕ = slotHeld s lun in
+    let S = sector-still s bi caller lun sel num bs b h q j l vs (t .image) B in
+    let R = accepted-read t caller′ lun′ sel′ num′ buf r in
+    let its : entryOf t lun′ ≡ entryOf s lun = ap (entryAt (t .image)) ek ∙ S .0 in
+    let q′ : contiguous (entryOf t lun′) ≡ true = ap contiguous its ∙ q in
+    let inside : 256 * a < length (R .0) = rw (ap moved (R .1 .answered)) at m in
+    let whole : 256 * a + 256 ≤ length (R .0) = omega (arith, inside, R .1 .how-many q′) in
+    ap (part (256 * a) 256) (R .1 .buffer-has)
+    ∙ sector-over a (R .0) buf whole
+    ∙ R .1 .each-sector q′ a inside
+    ∙ ap (λ (x : ℕ). unitAt (t .image) x (aimed t lun′ sel′ num′ + a)) ek
+    ∙ ap (unitAt (t .image) k) ei
+    ∙ S .1

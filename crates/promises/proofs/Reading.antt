@@ -6,7 +6,7 @@ use Prim.Native.Nat.{ℕ, _+_, _*_, _≤_, _/_, _-_, _<_}
 use native.Mathlib.Omega.{arith}
 use lib.ListN.{length, length-take, length-drop}
 use lib.Dec.{leb}
-use borrow.Author.Tests.{leb-true, leb-false}
+use borrow.Author.Tests.{leb-true, leb-false, le-leb, lt-leb}
 use Rattle.lists.specs.Parts.{part, sectors}
 use Rattle.lists.specs.Lists.{if_then_else_}
 use Rattle.volume.specs.Directory.{start, size, contiguous}
@@ -14,20 +14,19 @@ use Rattle.files.specs.Changes.{sectorsAt}
 use Rattle.files.specs.Files.{recordAt, extent}
 use Rattle.keeping.proofs.OverwriteKeeps.{run-inside}
 use Rattle.luns.specs.declared.Place.the-variants.{At}
-use Rattle.luns.specs.Luns.{placeExists}
-use Rattle.work.specs.Transfers.{readable, dataAt, units, moving, reading}
-use Rattle.desk.specs.Desk.{State, fileOf, aimed}
+use Rattle.luns.specs.Luns.{placeExists, movedTo}
+use Rattle.work.specs.Transfers.{Moving, readable, dataAt, units, moving, reading}
+use Rattle.desk.specs.Desk.{State, fileOf, aimed, lunAt}
 use Rattle.desk.specs.Calls.{Nothing, after, Read, transferred, done}
-use Rattle.desk.specs.Answers.{Outcome}
 use Rattle.desk.proofs.DeskFitting.{moved-fitting}
-use Rattle.promises.specs.Sectors.{Good}
-use Rattle.promises.specs.Contents.{slotHeld, AcceptedRead}
+use Rattle.promises.specs.Contents.{slotHeld, OnlyLun, least, HandedOver, AcceptedRead}
 use Rattle.promises.proofs.Told.{ReadTold, read-told}
 use Rattle.promises.proofs.Units.{extent-run, sector-of, unit-record, unit-sector}
 use Rattle.promises.proofs.PlacesExist.{place-run, place-one, units-run, units-one, sectored}
 use Rattle.promises.proofs.Held.{entryOf, Held, held-by}
-use Rattle.promises.proofs.Preserving.{Preserves, preserves-desk, transferredTo}
-use Rattle.promises.proofs.Passing.{accepted}
+use Rattle.promises.proofs.Preserving.{Preserves, preserves-desk, good-desk, transferredTo}
+use Rattle.promises.proofs.Passing.{accepted, carried}
+use Rattle.promises.proofs.OneLun.{only-put}
 
 length-sectorsAt : (v e : List ℕ) (i n : ℕ) → 256 * (start e + i) + 256 * n ≤ length v → length (sectorsAt e i n v) ≡ 256 * n
 unfolding sectorsAt part
@@ -51,6 +50,21 @@ readable-is e i m l o = go (leb (i + m / 256) (size e)) refl
         let h : size e < i + m / 256 = leb-false _ _ q in
         rw q (record { at-least = omega arith; at-most = omega arith; inside = omega arith })
 
+-- "as many sectors as the buffer holds, or up to the end"
+readable-least : (v e : List ℕ) (i m : ℕ) → contiguous e ≡ true → i < extent v e → readable e i m ≡ least (m / 256) (extent v e - i)
+unfolding readable
+readable-least v e i m q l = go (leb (i + m / 256) (size e)) refl
+  where
+    go : (b : Bool) → leb (i + m / 256) (size e) ≡ b → (if leb (i + m / 256) (size e) then m / 256 else size e - i) ≡ least (m / 256) (extent v e - i)
+    go true p =
+        let h : i + m / 256 ≤ size e = leb-true _ _ p in
+        let x : m / 256 ≤ extent v e - i = omega (arith, h, extent-run v e q) in
+        rw (p, le-leb (m / 256) (extent v e - i) x)
+    go false p =
+        let h : size e < i + m / 256 = leb-false _ _ p in
+        let x : extent v e - i < m / 256 = omega (arith, h, l, extent-run v e q) in
+        rw (p, lt-leb (m / 256) (extent v e - i) x, extent-run v e q)
+
 -- the data, by the kind of the file
 data-record : (v e : List ℕ) (i n : ℕ) → contiguous e ≡ false → dataAt v e i n ≡ recordAt v e i
 unfolding dataAt
@@ -60,7 +74,7 @@ data-run : (v e : List ℕ) (i n : ℕ) → contiguous e ≡ true → dataAt v e
 unfolding dataAt
 data-run v e i n q = rw q
 
-module _ (caller lun sel num : ℕ) (buf : List ℕ) (s : State) (g : Good s) (T : ReadTold s caller lun sel num (length buf)) where
+module _ (caller lun sel num : ℕ) (buf : List ℕ) (s : State) (T : ReadTold s caller lun sel num (length buf)) where
   abbrev v : List ℕ
   v = s .image
 
@@ -74,7 +88,7 @@ module _ (caller lun sel num : ℕ) (buf : List ℕ) (s : State) (g : Good s) (T
   r = readable e i (length buf)
 
   H : Held s lun
-  H = held-by s caller lun g (T .opened .is-mine)
+  H = held-by s caller lun (T .opened .is-ready) (T .opened .is-mine)
 
   there : i < extent v e
   unfolding fileOf
@@ -103,27 +117,50 @@ module _ (caller lun sel num : ℕ) (buf : List ℕ) (s : State) (g : Good s) (T
           (place-run v e i r q (R .at-least) (omega (arith, R .at-most, sectored (length buf) (T .long-ok q) .few)) (R .inside))
       go false q = rw (units-one e (length (dataAt v e i (length buf))) q) (place-one v e i q there)
 
+  abbrev readAt : Moving
+  readAt = reading v (fileOf s lun) i buf
+
   pub preserves-read : (bs : List ℕ) → Preserves bs Nothing s (transferredTo s lun (reading (s .image) (fileOf s lun) (aimed s lun sel num) buf))
   unfolding after reading moving fileOf
   preserves-read bs =
-      preserves-desk bs Nothing s _ g (moved-fitting v (s .desk) lun _ (H .lun-in) (H .is-held) place-after (H .fits-of))
+      preserves-desk bs Nothing s (after (s .desk) lun readAt) (λ g.
+      good-desk s (after (s .desk) lun readAt) g (moved-fitting v (s .desk) lun _ (H .lun-in) (H .is-held) place-after (H .fits-of)))
 
-  -- sector j of what it hands over
-  pub sector-read : contiguous (entryOf s lun) ≡ true → (j : ℕ) → 256 * j < length (dataAt (s .image) (entryOf s lun) (aimed s lun sel num) (length buf))
-      → part (256 * j) 256 (dataAt (s .image) (entryOf s lun) (aimed s lun sel num) (length buf)) ≡ sectorsAt (entryOf s lun) (aimed s lun sel num + j) 1 (s .image)
+  -- what it hands over
+  abbrev bs : List ℕ
+  bs = dataAt v e i (length buf)
+
+  sector-read : contiguous e ≡ true → (j : ℕ) → 256 * j < length bs → part (256 * j) 256 bs ≡ sectorsAt e (i + j) 1 v
   sector-read q j l = ap (part (256 * j) 256) (data-run v e i (length buf) q) ∙ sector-of e i r j v (omega (arith, run-length q))
 
+  fits-in : length bs ≤ length buf
+  unfolding fileOf
+  fits-in = go (contiguous e) refl
+    where
+      go : (b : Bool) → contiguous e ≡ b → length bs ≤ length buf
+      go true q = omega (arith, run-length q, run-readable q .at-most)
+      go false q = rw (data-record v e i (length buf) q) (T .holds-it q)
+
+  moves : (n : ℕ) → units e (length bs) ≡ n → OnlyLun (s .desk) (after (s .desk) lun readAt) lun (movedTo (At i n) (lunAt (s .desk) lun))
+  unfolding after reading moving fileOf
+  moves n p = rw (sym p) (only-put s lun (movedTo (At i (units e (length bs))) (lunAt (s .desk) lun)) (H .lun-in) (H .fits-of))
+
+  hands-over : HandedOver s (carried (Read caller lun sel num buf) s) lun (aimed s lun sel num) buf
+      (dataAt (s .image) (entryOf s lun) (aimed s lun sel num) (length buf))
+  unfolding fileOf done transferred reading moving
+  hands-over = record {
+    answered = refl;
+    image-kept = refl;
+    room = fits-in;
+    buffer-has = refl;
+    one-record = λ q. (data-record v e i (length buf) q ∙ sym (unit-record v e i q), moves 1 (units-one e (length bs) q));
+    how-many = λ q. run-length q ∙ ap (λ (m : ℕ). 256 * m) (readable-least v e i (length buf) q there);
+    each-sector = λ q j l. sector-read q j l ∙ sym (unit-sector v e (i + j) q);
+    sectors-moved = λ q. moves (length bs / 256) (units-run e (length bs) q);
+  }
+
 pub accepted-read : AcceptedRead
-unfolding fileOf done transferred reading moving
-accepted-read s g caller lun sel num buf h =
+accepted-read s caller lun sel num buf h =
     let a = accepted (Read caller lun sel num buf) s h in
     let T = read-told caller lun sel num buf s a in
-    let v : List ℕ = s .image in
-    let e : List ℕ = entryOf s lun in
-    let i : ℕ = aimed s lun sel num in (
-      dataAt v e i (length buf),
-      ap (λ (o : Outcome). o .buffer) (a .is),
-      ap (λ (o : Outcome). o .answer) (a .is),
-      λ q. data-record v e i (length buf) q ∙ sym (unit-record v e i q),
-      λ q j l. sector-read caller lun sel num buf s g T q j l ∙ sym (unit-sector v e (i + j) q),
-    )
+    (dataAt (s .image) (entryOf s lun) (aimed s lun sel num) (length buf), rw (a .is) (hands-over caller lun sel num buf s T))

@@ -25,10 +25,10 @@ use Rattle.luns.specs.Modes.{writes, modeOf}
 use Rattle.luns.proofs.Fitting.{fitting, free-fits, all-agree-free, Fitted, fitted-lun}
 use Rattle.work.specs.Volumes.{slotOf, exists}
 use Rattle.desk.specs.Desk.{State, state, putLun, lunAt, mine, spare}
+use Rattle.desk.specs.declared.Desk.{Desk}
 use Rattle.desk.specs.Calls.{Nothing, startOf, seatOf, newLun}
 use Rattle.desk.proofs.DeskFitting.{put-fitting, moved-fitting}
-use Rattle.promises.specs.Sectors.{Good}
-use Rattle.promises.proofs.Preserving.{Preserves, preserves-desk}
+use Rattle.promises.proofs.Preserving.{Preserves, preserves-desk, good-desk}
 use Rattle.promises.proofs.Told.{BeginTold, AssignTold}
 use Rattle.promises.proofs.Held.{Held, held-by}
 use Rattle.promises.proofs.Units.{extent-run}
@@ -43,18 +43,27 @@ free-is : freeLun .held ≡ false
 unfolding freeLun
 free-is = refl
 
-pub preserves-close : (bs : List ℕ) (lun : ℕ) (s : State) → Good s → Preserves bs Nothing s (state (s .image) (putLun (s .desk) lun freeLun))
-preserves-close bs lun s g =
-    preserves-desk bs Nothing s (putLun (s .desk) lun freeLun) g
-    (put-fitting (s .image) (s .desk) lun freeLun (free-fits (s .image)) (all-agree-free freeLun (s .desk .luns) free-is)
-    (fitting (s .image) (s .desk .luns) (g .is-fitting)))
+-- the desk after each
+abbrev pub closedAt : State → ℕ → Desk
+closedAt s lun = putLun (s .desk) lun freeLun
 
-pub preserves-rewind : (bs : List ℕ) (caller lun : ℕ) (s : State) → Good s → BeginTold s (mine (s .desk) caller lun)
-    → Preserves bs Nothing s (state (s .image) (putLun (s .desk) lun (movedTo Fresh (lunAt (s .desk) lun))))
-preserves-rewind bs caller lun s g T =
-    let H : Held s lun = held-by s caller lun g (T .is-fine) in
-    preserves-desk bs Nothing s (putLun (s .desk) lun (movedTo Fresh (lunAt (s .desk) lun))) g
-    (moved-fitting (s .image) (s .desk) lun Fresh (H .lun-in) (H .is-held) (fresh-exists (s .image) (entryAt (s .image) (lunAt (s .desk) lun .slot))) (H .fits-of))
+abbrev pub rewoundAt : State → ℕ → Desk
+rewoundAt s lun = putLun (s .desk) lun (movedTo Fresh (lunAt (s .desk) lun))
+
+pub preserves-close : (bs : List ℕ) (lun : ℕ) (s : State) → Preserves bs Nothing s (state (s .image) (closedAt s lun))
+preserves-close bs lun s =
+    preserves-desk bs Nothing s (closedAt s lun) (λ g.
+    good-desk s (closedAt s lun) g
+    (put-fitting (s .image) (s .desk) lun freeLun (free-fits (s .image)) (all-agree-free freeLun (s .desk .luns) free-is)
+    (fitting (s .image) (s .desk .luns) (g .is-fitting))))
+
+pub preserves-rewind : (bs : List ℕ) (caller lun : ℕ) (s : State) → BeginTold s (mine (s .desk) caller lun)
+    → Preserves bs Nothing s (state (s .image) (rewoundAt s lun))
+preserves-rewind bs caller lun s T =
+    let H : Held s lun = held-by s caller lun (T .is-ready) (T .is-fine) in
+    preserves-desk bs Nothing s (rewoundAt s lun) (λ g.
+    good-desk s (rewoundAt s lun) g
+    (moved-fitting (s .image) (s .desk) lun Fresh (H .lun-in) (H .is-held) (fresh-exists (s .image) (entryAt (s .image) (lunAt (s .desk) lun .slot))) (H .fits-of)))
 
 -- Assign: the place that a LUN starts at exists
 last-exists : (v e : List ℕ) → 1 ≤ extent v e → placeExists v e (At (extent v e - 1) 1) ≡ true
@@ -89,8 +98,8 @@ right-of true false e = absurd (true≢false e)
 right-of false h e = refl
 
 -- the new LUN fits, and agrees with all
-module _ (caller lun : ℕ) (desc : List ℕ) (mode : ℕ) (end : Bool) (s : State) (g : Good s) (T : AssignTold s caller lun desc mode end) where
-  named-there : named desc (entryAt (s .image) (slotOf (s .image) desc)) ≡ true
+module _ (caller lun : ℕ) (desc : List ℕ) (mode : ℕ) (end : Bool) (s : State) (T : AssignTold s caller lun desc mode end) where
+  pub named-there : named desc (entryAt (s .image) (slotOf (s .image) desc)) ≡ true
   unfolding slotOf exists
   named-there = slot-holds (s .image) (named desc) (T .named-file .found)
 
@@ -105,7 +114,11 @@ module _ (caller lun : ℕ) (desc : List ℕ) (mode : ℕ) (end : Bool) (s : Sta
         place = start-exists (s .image) e (modeOf mode) end;
       }
 
+  abbrev seated : Desk
+  seated = putLun (s .desk) lun (newLun (s .image) caller desc mode end)
+
   pub preserves-assign : Preserves desc Nothing s (state (s .image) (putLun (s .desk) lun (newLun (s .image) caller desc mode end)))
   preserves-assign =
-      preserves-desk desc Nothing s _ g
-      (put-fitting (s .image) (s .desk) lun _ (fitted-lun (s .image) _ (λ h. new-fitted)) (T .agreed) (fitting (s .image) (s .desk .luns) (g .is-fitting)))
+      preserves-desk desc Nothing s seated (λ g.
+      good-desk s seated g
+      (put-fitting (s .image) (s .desk) lun _ (fitted-lun (s .image) _ (λ h. new-fitted)) (T .agreed) (fitting (s .image) (s .desk .luns) (g .is-fitting))))

@@ -1,4 +1,4 @@
--- Demand 3 of one good state: where logical sectors lead, and which sectors are marked.
+-- Demand 3 of one sound volume: where logical sectors lead, and which sectors are marked.
 use mathlib.Core.Path.{_≡_, refl, ap, sym, _∙_}
 use mathlib.Core.Bool.{true, true≢false, Bool, false}
 use mathlib.Core.List.{List, [], _∷_}
@@ -6,10 +6,9 @@ use mathlib.Core.Logic.{_≢_}
 use Prim.Native.Nat.{ℕ, zero, suc, _<_}
 use native.Mathlib.Nat.{not-suc-le-zero, le-of-suc-le-suc}
 use native.Mathlib.Decide.{ℕ-discrete}
-use native.Mathlib.Omega.{arith}
 use lib.ListN.{length, getD}
-use borrow.Author.Tests.{eq-eqb, not-true, lt-leb}
-use Rattle.lists.specs.Lists.{among, distinct, if_then_else_, _or_}
+use borrow.Author.Tests.{eq-eqb, not-true}
+use Rattle.lists.specs.Lists.{among, distinct, if_then_else_}
 use Rattle.lists.specs.Parts.{sectors}
 use Rattle.lists.proofs.Tests.{or-first, or-second, and-left, and-right}
 use Rattle.volume.specs.Directory.{unused, contiguous, start, entryAt}
@@ -20,8 +19,8 @@ use Rattle.ownership.specs.Owners.{logical, owned, allOwned}
 use Rattle.files.proofs.SoundFacts.{Facts, facts}
 use Rattle.files.proofs.OwnersApart.{clear-at, slots-apart, system-apart}
 use Rattle.files.proofs.SequentialFile.{owned-distinct, fab-apart}
-use Rattle.desk.specs.Desk.{State}
-use Rattle.promises.specs.Sectors.{Good, File, leadsTo, hasSector, NoSystemSector, OneSectorEach, NoAccessBlock, MarkedExactly}
+use Rattle.files.specs.Files.{sound}
+use Rattle.promises.specs.Sectors.{File, leadsTo, hasSector, NoSystemSector, OneSectorEach, NoAccessBlock, MarkedExactly, SoundInOrder}
 
 getD-among : (xs : List ℕ) (a : ℕ) → a < length xs → among (getD xs a 0) xs ≡ true
 unfolding among
@@ -65,59 +64,53 @@ logical-distinct v e n d = go (contiguous e) refl
     go true q = rw (n, q) at d
     go false q = and-right _ _ (rw (n, q) at d)
 
-module _ (s : State) (g : Good s) where
-  abbrev v : List ℕ
-  v = s .image
-
+module _ (v : List ℕ) (h : sound v ≡ true) where
   F : Facts v
-  F = facts v (g .is-sound)
+  F = facts v h
 
   -- a logical sector is among those that its file owns
-  led : (k a : ℕ) → File s k → hasSector s k a → among (leadsTo s k a) (owned v (entryAt v k)) ≡ true
+  led : (k a : ℕ) → File v k → hasSector v k a → among (leadsTo v k a) (owned v (entryAt v k)) ≡ true
   led k a f h = owns-logical v (entryAt v k) _ (f .used) (getD-among (logical v (entryAt v k)) a h)
 
   -- and of no other file
-  not-led : (j k a : ℕ) → File s j → File s k → j ≢ k → hasSector s j a → among (leadsTo s j a) (owned v (entryAt v k)) ≡ false
+  not-led : (j k a : ℕ) → File v j → File v k → j ≢ k → hasSector v j a → among (leadsTo v j a) (owned v (entryAt v k)) ≡ false
   not-led j k a fj fk n h = clear-at (owned v (entryAt v k)) (owned v (entryAt v j)) _ (slots-apart v F j k (fj .slot) (fk .slot) n) (led j a fj h)
 
-pub no-system-sector : NoSystemSector
-no-system-sector s g k a f h =
-    clear-at (system (s .image)) (owned (s .image) (entryAt (s .image) k)) _ (system-apart (s .image) (F s g) k (f .slot)) (led s g k a f h)
+  no-system-sector : NoSystemSector v
+  no-system-sector k a f h = clear-at (system v) (owned v (entryAt v k)) _ (system-apart v F k (f .slot)) (led k a f h)
 
-pub one-sector-each : OneSectorEach
-one-sector-each s g j k a b fj fk hj hk e = elim (ℕ-discrete j k) [
-  | yes q ↦
-      let d = logical-distinct v (entryAt v k) (fk .used) (owned-distinct v (F s g) k (fk .slot)) in
-      let same : leadsTo s k a ≡ leadsTo s k b = ap (λ (x : ℕ). leadsTo s x a) (sym q) ∙ e in
-      (q, one-place (logical v (entryAt v k)) a b d (rw q at hj) hk same)
-  | no n ↦
-      let mine : among (leadsTo s j a) (owned v (entryAt v k)) ≡ true = ap (λ (x : ℕ). among x (owned v (entryAt v k))) e ∙ led s g k b fk hk in
-      absurd (true≢false (sym mine ∙ not-led s g j k a fj fk n hj))
-]
-  where
-    v : List ℕ
-    v = s .image
+  one-sector-each : OneSectorEach v
+  one-sector-each j k a b fj fk hj hk e = elim (ℕ-discrete j k) [
+    | yes q ↦
+        let d = logical-distinct v (entryAt v k) (fk .used) (owned-distinct v F k (fk .slot)) in
+        let same : leadsTo v k a ≡ leadsTo v k b = ap (λ (x : ℕ). leadsTo v x a) (sym q) ∙ e in
+        (q, one-place (logical v (entryAt v k)) a b d (rw q at hj) hk same)
+    | no n ↦
+        let mine : among (leadsTo v j a) (owned v (entryAt v k)) ≡ true = ap (λ (x : ℕ). among x (owned v (entryAt v k))) e ∙ led k b fk hk in
+        absurd (true≢false (sym mine ∙ not-led j k a fj fk n hj))
+  ]
 
-pub no-access-block : NoAccessBlock
-no-access-block s g j k a fj fk q h e = elim (ℕ-discrete k j) [
-  | yes p ↦
-      let here : among (leadsTo s k a) (logical v (entryAt v k)) ≡ true = getD-among (logical v (entryAt v k)) a h in
-      let block : among (start (entryAt v j)) (logical v (entryAt v j)) ≡ true =
-      rw (ap (λ (x : ℕ). logical v (entryAt v x)) p) at (rw e at here) in
-      true≢false (sym block ∙ fab-apart v (F s g) j (fj .slot) (fj .used) q)
-  | no n ↦
-      let its : among (leadsTo s k a) (owned v (entryAt v j)) ≡ true =
-      ap (λ (x : ℕ). among x (owned v (entryAt v j))) e ∙ owned-start v (entryAt v j) (fj .used) q in
-      true≢false (sym its ∙ not-led s g k j a fk fj n h)
-]
-  where
-    v : List ℕ
-    v = s .image
+  no-access-block : NoAccessBlock v
+  no-access-block j k a fj fk q h e = elim (ℕ-discrete k j) [
+    | yes p ↦
+        let here : among (leadsTo v k a) (logical v (entryAt v k)) ≡ true = getD-among (logical v (entryAt v k)) a h in
+        let block : among (start (entryAt v j)) (logical v (entryAt v j)) ≡ true =
+        rw (ap (λ (x : ℕ). logical v (entryAt v x)) p) at (rw e at here) in
+        true≢false (sym block ∙ fab-apart v F j (fj .slot) (fj .used) q)
+    | no n ↦
+        let its : among (leadsTo v k a) (owned v (entryAt v j)) ≡ true =
+        ap (λ (x : ℕ). among x (owned v (entryAt v j))) e ∙ owned-start v (entryAt v j) (fj .used) q in
+        true≢false (sym its ∙ not-led k j a fk fj n h)
+  ]
 
-pub marked-exactly : MarkedExactly
-unfolding owns _or_
-marked-exactly s g x h =
-    let v : List ℕ = s .image in
-    ap (λ (b : List ℕ). marked b x) (F s g .sat-right)
-    ∙ marked-satOf (sectors v) (allOwned v) x (omega (arith, F s g .high))
-    ∙ rw (lt-leb (sectors v) x h)
+  marked-exactly : MarkedExactly v
+  unfolding owns
+  marked-exactly x l = ap (λ (b : List ℕ). marked b x) (F .sat-right) ∙ marked-satOf (sectors v) (allOwned v) x l
+
+pub in-order : SoundInOrder
+in-order v h = record {
+  one-sector-each = one-sector-each v h;
+  no-system-sector = no-system-sector v h;
+  no-access-block = no-access-block v h;
+  marked-exactly = marked-exactly v h;
+}

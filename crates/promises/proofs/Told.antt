@@ -24,7 +24,8 @@ use Rattle.work.specs.Volumes.{formatRules, exists, sized, allocateRules, place
 use Rattle.work.specs.Transfers.{oddLength, ended, readRules, wrongLength, beyond, roomRules, writeRules, updateRules}
 use Rattle.work.proofs.Rules.{Passes, passes-append}
 use Rattle.desk.specs.Desk.{State, ready, spare, mine, lunAt, fileOf, aimed}
-use Rattle.desk.specs.Calls.{beginRules, Format, rules, Allocate, newLun, Assign, seatOf, seatRules, assignRules, Rewind, Delete, removeRules, deleteRules, openRules, Read, Write}
+use Rattle.desk.specs.Calls.{beginRules, Format, rules, Allocate, newLun, Assign, seatOf, seatRules, assignRules, Close, Rewind, Delete, removeRules, deleteRules, openRules, Read}
+use Rattle.desk.specs.Calls.{Write}
 use Rattle.desk.specs.Calls.{Update}
 use Rattle.promises.proofs.Passing.{Accepted}
 
@@ -122,7 +123,11 @@ assign-told caller lun desc mode end s a =
       agreed = not-false _ (or-right _ _ noRight);
     }
 
--- Rewind (of close nothing is needed: any LUN may be freed)
+-- Close and rewind
+pub close-told : (caller lun : ℕ) (s : State) → Accepted (Close caller lun) s → BeginTold s (mine (s .desk) caller lun)
+unfolding rules
+close-told caller lun s a = begin-told s (mine (s .desk) caller lun) (a .passes)
+
 pub rewind-told : (caller lun : ℕ) (s : State) → Accepted (Rewind caller lun) s → BeginTold s (mine (s .desk) caller lun)
 unfolding rules
 rewind-told caller lun s a = begin-told s (mine (s .desk) caller lun) (a .passes)

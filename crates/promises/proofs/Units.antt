@@ -16,10 +16,9 @@ use Rattle.ownership.specs.Owners.{logical}
 use Rattle.files.specs.Files.{records, recordAt, extent, stored}
 use Rattle.files.specs.Changes.{sectorsAt}
 use Rattle.files.proofs.UsedSlots.{used-slot}
-use Rattle.desk.specs.Desk.{State}
-use Rattle.promises.specs.Contents.{unitOf}
+use Rattle.promises.specs.Contents.{unitOf, SameFile, SameFrame}
 use Rattle.promises.specs.Lasting.{Lasting}
-use Rattle.promises.specs.Sectors.{SameFile, File}
+use Rattle.promises.specs.Sectors.{File}
 
 -- by the kind of the file
 module _ (v e : List ℕ) where
@@ -82,51 +81,48 @@ module _ (v v′ e : List ℕ) where
   record-other i j r n h = ap (λ (rs : List (List ℕ)). getD rs i []) h ∙ getD-set-other (records v e) j i r [] n
 
 -- a unit that stays, in a file whose entry stays
-pub lasting-by : (s s′ : State) (k i : ℕ) → entryAt (s′ .image) k ≡ entryAt (s .image) k → i < extent (s′ .image) (entryAt (s .image) k)
-    → unitOf (s′ .image) (entryAt (s .image) k) i ≡ unitOf (s .image) (entryAt (s .image) k) i → Lasting s s′ k i
-lasting-by s s′ k i e h u = record { same-entry = e; still-there = h; same-unit = ap (λ (x : List ℕ). unitOf (s′ .image) x i) e ∙ u }
+module _ (v v′ : List ℕ) (k i : ℕ) where
+  pub lasting-by : entryAt v′ k ≡ entryAt v k → i < extent v′ (entryAt v k) → unitOf v′ (entryAt v k) i ≡ unitOf v (entryAt v k) i → Lasting v v′ k i
+  lasting-by e h u = record { same-entry = e; still-there = h; same-unit = ap (λ (x : List ℕ). unitOf v′ x i) e ∙ u }
 
--- the same file has the same units
-pub lasting-same : (s s′ : State) (k i : ℕ) → SameFile s s′ k → i < extent (s .image) (entryAt (s .image) k) → Lasting s s′ k i
-lasting-same s s′ k i S h = go (contiguous e) refl
-  where
-    v : List ℕ
-    v = s .image
+  -- the same file has the same units
+  pub lasting-same : SameFile v v′ k → i < extent v (entryAt v k) → Lasting v v′ k i
+  lasting-same S h = go (contiguous e) refl
+    where
+      e : List ℕ
+      e = entryAt v k
 
-    v′ : List ℕ
-    v′ = s′ .image
-
-    e : List ℕ
-    e = entryAt (s .image) k
-
-    go : (b : Bool) → contiguous e ≡ b → Lasting s s′ k i
-    go true q =
-        let l : i < size e = omega (arith, h, extent-run v e q) in
-        lasting-by s s′ k i (S .entry-same) (omega (arith, l, extent-run v′ e q))
-        (unit-sector v′ e i q
-        ∙ sector-stored v′ e i q l
-        ∙ ap (part (256 * i) 256) (S .bytes-same)
-        ∙ sym (sector-stored v e i q l)
-        ∙ sym (unit-sector v e i q))
-    go false q =
-        lasting-by s s′ k i (S .entry-same) (omega (arith, h, extent-records v e q, extent-records v′ e q, ap length (S .records-same q)))
-        (unit-record v′ e i q ∙ record-same v v′ e i (S .records-same q) ∙ sym (unit-record v e i q))
+      go : (b : Bool) → contiguous e ≡ b → Lasting v v′ k i
+      go true q =
+          let l : i < size e = omega (arith, h, extent-run v e q) in
+          lasting-by (S .entry-same) (omega (arith, l, extent-run v′ e q))
+          (unit-sector v′ e i q
+          ∙ sector-stored v′ e i q l
+          ∙ ap (part (256 * i) 256) (S .bytes-same)
+          ∙ sym (sector-stored v e i q l)
+          ∙ sym (unit-sector v e i q))
+      go false q =
+          lasting-by (S .entry-same) (omega (arith, h, extent-records v e q, extent-records v′ e q, ap length (S .records-same q)))
+          (unit-record v′ e i q ∙ record-same v v′ e i (S .records-same q) ∙ sym (unit-record v e i q))
 
 -- nothing happened to the image; one change after the other
-pub same-file : (s s′ : State) (k : ℕ) → s′ .image ≡ s .image → SameFile s s′ k
-same-file s s′ k e = record { entry-same = rw e; places-same = rw e; bytes-same = rw e; records-same = λ q. rw e }
+pub same-file : (v : List ℕ) (k : ℕ) → SameFile v v k
+same-file v k = record { entry-same = refl; block-same = λ q. refl; places-same = refl; bytes-same = refl; records-same = λ q. refl }
 
-pub lasting-image : (s s′ : State) (k i : ℕ) → s′ .image ≡ s .image → i < extent (s .image) (entryAt (s .image) k) → Lasting s s′ k i
-lasting-image s s′ k i e h = lasting-same s s′ k i (same-file s s′ k e) h
+pub same-frame : (v : List ℕ) → SameFrame v v
+same-frame v = record { as-long = refl; vid-same = refl; trailer-same = refl }
 
-pub lasting-trans : (s s′ t : State) (k i : ℕ) → Lasting s s′ k i → Lasting s′ t k i → Lasting s t k i
-lasting-trans s s′ t k i a b = record {
+pub lasting-image : (v : List ℕ) (k i : ℕ) → i < extent v (entryAt v k) → Lasting v v k i
+lasting-image v k i h = lasting-same v v k i (same-file v k) h
+
+pub lasting-trans : (u v w : List ℕ) (k i : ℕ) → Lasting u v k i → Lasting v w k i → Lasting u w k i
+lasting-trans u v w k i a b = record {
   same-entry = b .same-entry ∙ a .same-entry;
   still-there = rw (a .same-entry) at (b .still-there);
   same-unit = b .same-unit ∙ a .same-unit;
 }
 
-pub file-after : (s s′ : State) (k : ℕ) → File s k → entryAt (s′ .image) k ≡ entryAt (s .image) k → File s′ k
-file-after s s′ k f e =
-    let u : unused (entryAt (s′ .image) k) ≡ false = ap unused e ∙ f .used in
-    record { slot = used-slot (s′ .image) k u; used = u }
+pub file-after : (v v′ : List ℕ) (k : ℕ) → unused (entryAt v k) ≡ false → entryAt v′ k ≡ entryAt v k → File v′ k
+file-after v v′ k f e =
+    let u : unused (entryAt v′ k) ≡ false = ap unused e ∙ f in
+    record { slot = used-slot v′ k u; used = u }

@@ -1,30 +1,34 @@
 -- Update: exactly that record, and everything else stays.
-use mathlib.Core.Path.{_≡_, ap, sym, _∙_}
+use mathlib.Core.Path.{_≡_, refl, ap, sym, _∙_}
 use mathlib.Core.Logic.{_≢_, ⊎-elim}
 use mathlib.Core.Bool.{true, false}
 use mathlib.Core.List.{List}
 use Prim.Native.Nat.{ℕ, _<_}
 use native.Mathlib.Omega.{arith}
 use lib.ListN.{length, set, length-set}
+use Rattle.volume.specs.Volume.{sat}
 use Rattle.volume.specs.Directory.{entryAt, contiguous, recordLength}
 use Rattle.records.specs.Records.{allowed}
 use Rattle.files.specs.Files.{extent, records, recordAt}
 use Rattle.files.specs.Changes.{updated}
-use Rattle.files.proofs.RecordUpdated.{updated-changed, updated-sound, updated-entry, records-updated, bytes-updated}
+use Rattle.files.proofs.RecordUpdated.{updated-changed, updated-sat, updated-sound, updated-entry, records-updated, bytes-updated}
+use Rattle.luns.specs.declared.Place.the-variants.{At}
+use Rattle.luns.specs.Luns.{movedTo}
 use Rattle.work.specs.Transfers.{moving, updating}
-use Rattle.desk.specs.Desk.{State, fileOf, aimed}
+use Rattle.desk.specs.Desk.{State, fileOf, aimed, lunAt}
 use Rattle.desk.specs.Calls.{Units, after, Update, transferred, done}
-use Rattle.promises.specs.Sectors.{Good}
-use Rattle.promises.specs.Contents.{slotHeld, AcceptedUpdate}
+use Rattle.promises.specs.Sectors.{Bytes}
+use Rattle.promises.specs.Contents.{slotHeld, OnlyLun, Updated, AcceptedUpdate}
 use Rattle.promises.proofs.Told.{UpdateTold, update-told}
 use Rattle.promises.proofs.Units.{extent-records, unit-record, record-other}
 use Rattle.promises.proofs.PlacesExist.{place-one, units-one}
 use Rattle.promises.proofs.Held.{entryOf, Held, held-by}
 use Rattle.promises.proofs.Preserving.{Preserves, Rewrites, transferredTo, preserves-rewrite}
 use Rattle.promises.proofs.Appending.{right-length}
-use Rattle.promises.proofs.Passing.{accepted, next-accepted}
+use Rattle.promises.proofs.Passing.{accepted, carried}
+use Rattle.promises.proofs.OneLun.{only-put}
 
-module _ (caller lun sel num : ℕ) (bs : List ℕ) (s : State) (g : Good s) (T : UpdateTold s caller lun sel num bs) where
+module _ (caller lun sel num : ℕ) (bs : List ℕ) (s : State) (bi : Bytes (s .image)) (T : UpdateTold s caller lun sel num bs) where
   abbrev v : List ℕ
   v = s .image
 
@@ -41,7 +45,7 @@ module _ (caller lun sel num : ℕ) (bs : List ℕ) (s : State) (g : Good s) (T 
   v′ = updated e i bs v
 
   H : Held s lun
-  H = held-by s caller lun g (T .opened .is-mine)
+  H = held-by s caller lun (T .opened .is-ready) (T .opened .is-mine)
 
   sequential : contiguous e ≡ false
   unfolding fileOf
@@ -60,21 +64,24 @@ module _ (caller lun sel num : ℕ) (bs : List ℕ) (s : State) (g : Good s) (T 
   long = T .same-length
 
   pub update-entry : entryAt (updated (entryOf s lun) (aimed s lun sel num) bs (s .image)) (slotHeld s lun) ≡ entryOf s lun
-  update-entry = updated-entry v (H .facts-of) k (H .slot-in) (H .lun-ok .used) sequential (g .is-bytes) i bs there fine long
+  update-entry = updated-entry v (H .facts-of) k (H .slot-in) (H .lun-ok .used) sequential bi i bs there fine long
 
   pub update-records : records (updated (entryOf s lun) (aimed s lun sel num) bs (s .image)) (entryOf s lun) ≡ set (records (s .image) (entryOf s lun)) (aimed s lun sel num) bs
-  update-records = records-updated v (H .facts-of) k (H .slot-in) (H .lun-ok .used) sequential (g .is-bytes) i bs there fine long
+  update-records = records-updated v (H .facts-of) k (H .slot-in) (H .lun-ok .used) sequential bi i bs there fine long
 
   extent-after : extent v′ e ≡ extent v e
   extent-after =
       extent-records v′ e sequential ∙ ap length update-records ∙ length-set (records v e) i bs ∙ sym (extent-records v e sequential)
 
-  rewrites : Rewrites s lun bs v′ i 1
+  pub update-sat : sat (updated (entryOf s lun) (aimed s lun sel num) bs (s .image)) ≡ sat (s .image)
+  update-sat = updated-sat v (H .facts-of) k (H .slot-in) (H .lun-ok .used) sequential bi i bs there fine long
+
+  pub rewrites : Rewrites s lun bs (updated (entryOf s lun) (aimed s lun sel num) bs (s .image)) (aimed s lun sel num) 1
   rewrites = record {
     ws = _;
-    changed = updated-changed v (H .facts-of) k (H .slot-in) (H .lun-ok .used) sequential (g .is-bytes) i bs there fine long;
-    is-sound = updated-sound v (H .facts-of) k (H .slot-in) (H .lun-ok .used) sequential (g .is-bytes) i bs there fine long;
-    are-bytes = bytes-updated v (H .facts-of) k (H .slot-in) (H .lun-ok .used) sequential (g .is-bytes) i bs there fine long;
+    changed = updated-changed v (H .facts-of) k (H .slot-in) (H .lun-ok .used) sequential bi i bs there fine long;
+    is-sound = updated-sound v (H .facts-of) k (H .slot-in) (H .lun-ok .used) sequential bi i bs there fine long;
+    are-bytes = λ z. bytes-updated v (H .facts-of) k (H .slot-in) (H .lun-ok .used) sequential bi i bs there fine long;
     as-long = omega (arith, extent-after);
     place = place-one v′ e i sequential (omega (arith, there, extent-records v e sequential, extent-after));
     elsewhere = λ u l h.
@@ -85,11 +92,25 @@ module _ (caller lun sel num : ℕ) (bs : List ℕ) (s : State) (g : Good s) (T 
   pub preserves-update : Preserves bs (Units (slotHeld s lun) (aimed s lun sel num) 1) s
       (transferredTo s lun (updating (s .image) (fileOf s lun) (aimed s lun sel num) bs))
   unfolding fileOf updating moving after
-  preserves-update = rw (units-one e (length bs) sequential) (preserves-rewrite s lun bs v′ i 1 H rewrites)
+  preserves-update = rw (units-one e (length bs) sequential) (preserves-rewrite s bi lun bs v′ i 1 H rewrites)
+
+  moves : OnlyLun (s .desk) (after (s .desk) lun (updating v e i bs)) lun (movedTo (At i 1) (lunAt (s .desk) lun))
+  unfolding after updating moving
+  moves = rw (units-one e (length bs) sequential) (only-put s lun (movedTo (At i 1) (lunAt (s .desk) lun)) (H .lun-in) (H .fits-of))
+
+  did : Updated s (carried (Update caller lun sel num bs) s) lun (aimed s lun sel num) bs
+  unfolding fileOf done transferred updating moving
+  did = record {
+    answered = refl;
+    entry-same = update-entry;
+    sequential = sequential;
+    there = there;
+    same-length = long ∙ ap length (sym (unit-record v e i sequential));
+    replaced = update-records;
+    record-moved = moves;
+  }
 
 pub accepted-update : AcceptedUpdate
-unfolding fileOf done transferred updating moving
-accepted-update s g caller lun sel num bs b h =
+accepted-update s bi caller lun sel num bs h =
     let a = accepted (Update caller lun sel num bs) s h in
-    let T = update-told caller lun sel num bs s a in
-    rw (next-accepted (Update caller lun sel num bs) s a) (update-entry caller lun sel num bs s g T, update-records caller lun sel num bs s g T)
+    rw (a .is) (did caller lun sel num bs s bi (update-told caller lun sel num bs s a))

@@ -1,35 +1,39 @@
 -- Write, to a file of either kind: what is in the file after it, and that it keeps everything else.
-use mathlib.Core.Path.{_≡_, refl, sym, _∙_}
+use mathlib.Core.Path.{_≡_, refl, ap, sym, _∙_}
 use mathlib.Core.Bool.{true, false, Bool, true≢false}
 use mathlib.Core.List.{List}
-use mathlib.Core.Logic.{inl, inr}
-use Prim.Native.Nat.{ℕ}
+use mathlib.Core.Logic.{⊎-elim, inl, inr}
+use Prim.Native.Nat.{ℕ, _/_}
 use native.Mathlib.Omega.{arith}
 use lib.ListN.{length}
 use Rattle.volume.specs.Directory.{contiguous, entryAt}
+use Rattle.files.specs.Files.{records}
 use Rattle.files.specs.Changes.{overwritten, appended}
+use Rattle.luns.specs.declared.Place.the-variants.{At}
+use Rattle.luns.specs.Luns.{movedTo}
 use Rattle.work.specs.Transfers.{written, units, moving, writing}
-use Rattle.desk.specs.Desk.{State, fileOf, aimed}
+use Rattle.desk.specs.Desk.{State, fileOf, aimed, lunAt}
 use Rattle.desk.specs.Calls.{Units, after, Write, transferred, done}
-use Rattle.promises.specs.Sectors.{Good}
-use Rattle.promises.specs.Contents.{slotHeld, Wrote, AcceptedWrite}
+use Rattle.promises.specs.Sectors.{Bytes}
+use Rattle.promises.specs.Contents.{slotHeld, OnlyLun, Wrote, AcceptedWrite}
 use Rattle.promises.proofs.Told.{WriteTold, write-told}
 use Rattle.promises.proofs.PlacesExist.{units-run, units-one}
-use Rattle.promises.proofs.Held.{entryOf}
+use Rattle.promises.proofs.Held.{entryOf, Held, held-by}
 use Rattle.promises.proofs.Preserving.{Preserves, movedOn, transferredTo, preserves-rewrite}
 use Rattle.promises.proofs.Appending.{Appending, appending, append-entry, append-records, append-rewrites}
 use Rattle.promises.proofs.Overwriting.{Overwriting, overwriting, overwrite-entry, overwrite-here, overwrite-rewrites}
-use Rattle.promises.proofs.Passing.{accepted, next-accepted}
+use Rattle.promises.proofs.Passing.{accepted, carried}
+use Rattle.promises.proofs.OneLun.{only-put}
 
-written-run : (e : List ℕ) (i : ℕ) (bs v : List ℕ) → contiguous e ≡ true → written e i bs v ≡ overwritten e i bs v
+pub written-run : (e : List ℕ) (i : ℕ) (bs v : List ℕ) → contiguous e ≡ true → written e i bs v ≡ overwritten e i bs v
 unfolding written
 written-run e i bs v q = rw q
 
-written-records : (e : List ℕ) (i : ℕ) (bs v : List ℕ) → contiguous e ≡ false → written e i bs v ≡ appended e bs v
+pub written-records : (e : List ℕ) (i : ℕ) (bs v : List ℕ) → contiguous e ≡ false → written e i bs v ≡ appended e bs v
 unfolding written
 written-records e i bs v q = rw q
 
-module _ (caller lun sel num : ℕ) (bs : List ℕ) (s : State) (g : Good s) (T : WriteTold s caller lun sel num bs) where
+module _ (caller lun sel num : ℕ) (bs : List ℕ) (s : State) (T : WriteTold s caller lun sel num bs) where
   abbrev v : List ℕ
   v = s .image
 
@@ -45,46 +49,64 @@ module _ (caller lun sel num : ℕ) (bs : List ℕ) (s : State) (g : Good s) (T 
   abbrev t : State
   t = movedOn s lun (written e i bs v) i (units e (length bs))
 
+  H : Held s lun
+  H = held-by s caller lun (T .opened .is-ready) (T .opened .is-mine)
+
   O : contiguous e ≡ true → Overwriting s lun i bs
-  O q = overwriting caller lun sel num bs s g T q
+  O q = overwriting caller lun sel num bs s T q
 
   A : contiguous e ≡ false → Appending s lun i bs
-  A q = appending caller lun sel num bs s g T q
+  A q = appending caller lun sel num bs s T q
 
-  pub preserves-write : Preserves bs (Units (slotHeld s lun) (aimed s lun sel num) (units (fileOf s lun) (length bs))) s
+  pub preserves-write : Bytes (s .image) → Preserves bs (Units (slotHeld s lun) (aimed s lun sel num) (units (fileOf s lun) (length bs))) s
       (transferredTo s lun (writing (s .image) (fileOf s lun) (aimed s lun sel num) bs))
   unfolding fileOf writing moving after
-  preserves-write = go (contiguous e) refl
+  preserves-write bi = go (contiguous e) refl
     where
       go : (b : Bool) → contiguous e ≡ b → Preserves bs (Units k i (units e (length bs))) s t
       go true q =
-          rw (units-run e (length bs) q, written-run e i bs v q) (preserves-rewrite s lun bs (overwritten e i bs v) i _ (O q .held-file) (overwrite-rewrites s g lun i bs (O q)))
+          rw (units-run e (length bs) q, written-run e i bs v q) (preserves-rewrite s bi lun bs (overwritten e i bs v) i _ (O q .held-file) (overwrite-rewrites s lun i bs (O q)))
       go false q =
-          rw (units-one e (length bs) q, written-records e i bs v q) (preserves-rewrite s lun bs (appended e bs v) i 1 (A q .held-file) (append-rewrites s g lun i bs (A q)))
+          rw (units-one e (length bs) q, written-records e i bs v q) (preserves-rewrite s bi lun bs (appended e bs v) i 1 (A q .held-file) (append-rewrites s lun i bs (A q)))
 
-  wrote : Wrote s t k i bs
+  -- the place after it
+  moves : (n : ℕ) → units e (length bs) ≡ n → OnlyLun (s .desk) (after (s .desk) lun (writing v e i bs)) lun (movedTo (At i n) (lunAt (s .desk) lun))
+  unfolding after writing moving
+  moves n p = rw (sym p) (only-put s lun (movedTo (At i (units e (length bs))) (lunAt (s .desk) lun)) (H .lun-in) (H .fits-of))
+
+  wrote : Wrote s (carried (Write caller lun sel num bs) s) lun (aimed s lun sel num) bs
+  unfolding fileOf done transferred writing moving
   wrote = go (contiguous e) refl
     where
-      go : (b : Bool) → contiguous e ≡ b → Wrote s t k i bs
+      go : (b : Bool) → contiguous e ≡ b → Wrote s (carried (Write caller lun sel num bs) s) lun i bs
       go true q =
-          let x : entryAt (overwritten e i bs v) k ≡ e = overwrite-entry s g lun i bs (O q) in
-          let R = overwrite-rewrites s g lun i bs (O q) in
-          rw (written-run e i bs v q) record {
-            file-same = x;
+          let w : written e i bs v ≡ overwritten e i bs v = written-run e i bs v q in
+          let x : entryAt (written e i bs v) k ≡ e = ap (λ (u : List ℕ). entryAt u k) w ∙ overwrite-entry s lun i bs (O q) in
+          let R = overwrite-rewrites s lun i bs (O q) in
+          record {
+            answered = refl;
+            entry-same = x;
             appended-record = λ p. absurd (true≢false (sym q ∙ p));
-            sectors-written = λ p j h. rw x (overwrite-here s g lun i bs (O q) j h);
-            sectors-kept = λ p j h. (λ l. rw x (R .elsewhere j h (inl (omega arith))), λ l. rw x (R .elsewhere j h (inr l)));
+            sectors-written = λ p j h. rw w (overwrite-here s lun i bs (O q) j h);
+            sectors-kept = λ p j h l. rw w (R .elsewhere j h (⊎-elim (λ a. inl (omega arith)) (λ a. inr a) l));
+            sectors-moved = λ p. moves (length bs / 256) (units-run e (length bs) q);
           }
       go false q =
-          rw (written-records e i bs v q) record {
-            file-same = append-entry s g lun i bs (A q);
-            appended-record = λ p. (A q .at-end, append-records s g lun i bs (A q));
+          let w : written e i bs v ≡ appended e bs v = written-records e i bs v q in
+          record {
+            answered = refl;
+            entry-same = ap (λ (u : List ℕ). entryAt u k) w ∙ append-entry s lun i bs (A q);
+            appended-record = λ p. (
+              A q .at-end,
+              ap (λ (u : List ℕ). records u e) w ∙ append-records s lun i bs (A q),
+              moves 1 (units-one e (length bs) q),
+            );
             sectors-written = λ p. absurd (true≢false (sym p ∙ q));
             sectors-kept = λ p. absurd (true≢false (sym p ∙ q));
+            sectors-moved = λ p. absurd (true≢false (sym p ∙ q));
           }
 
 pub accepted-write : AcceptedWrite
-unfolding fileOf done transferred writing moving after
-accepted-write s g caller lun sel num bs b h =
+accepted-write s caller lun sel num bs h =
     let a = accepted (Write caller lun sel num bs) s h in
-    rw (next-accepted (Write caller lun sel num bs) s a) (wrote caller lun sel num bs s g (write-told caller lun sel num bs s a))
+    rw (a .is) (wrote caller lun sel num bs s (write-told caller lun sel num bs s a))

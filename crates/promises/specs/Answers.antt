@@ -2,17 +2,19 @@
 use mathlib.Core.List.{List, [], _∷_}
 use mathlib.Core.Path.{_≡_}
 use mathlib.Core.Bool.{true, false}
-use mathlib.Core.Logic.{_↔_}
+use mathlib.Core.Logic.{_↔_, _≢_}
 use Prim.Native.Nat.{ℕ, _<_}
 use lib.ListN.{length, getD}
 use Rattle.lists.specs.Lists.{among}
 use Rattle.work.specs.declared.Refusal.{Refusal}
 use Rattle.work.specs.declared.Refusal.the-variants.{NotSound}
 use Rattle.work.specs.Refusals.{Rule, _if_}
-use Rattle.desk.specs.Desk.{State}
-use Rattle.desk.specs.Answers.{status, moved, Outcome}
-use Rattle.desk.specs.Calls.{Call, step, given, rules}
+use Rattle.desk.specs.Desk.{State, ready}
+use Rattle.desk.specs.Answers.{status, moved}
+use Rattle.desk.specs.Calls.{Call, Format, Check, step, given, rules, Ensured}
+use Rattle.desk.specs.declared.Answer.{Answer}
 use Rattle.desk.specs.declared.Answer.the-variants.{Refused}
+use Rattle.desk.specs.declared.Desk.{Desk}
 
 -- the numbers of the status table
 unfoldable pub statusTable : List ℕ
@@ -44,7 +46,19 @@ pub record First (rs : List Rule) (k : ℕ) (r : Refusal) : Type 0 where
 abbrev pub RefusedExactly : Type 0
 RefusedExactly = (c : Call) (s : State) (r : Refusal) → (step c s .answer ≡ Refused r) ↔ ((k : ℕ) × First (rules c s) k r)
 
--- "That at most one outcome satisfies each statement": a call's statement is that its answer, image, desk and buffer are those of
--- `step`
+-- $6F: a volume that is not sound, or a desk that does not fit it, is refused by every call but format and check
+abbrev pub UnreadyRefused : Type 0
+UnreadyRefused =
+    (c : Call) (s : State) → ((id : List ℕ) (n : ℕ) → c ≢ Format id n) → c ≢ Check → ready s ≡ false → step c s .answer ≡ Refused NotSound
+
+-- "That at most one outcome satisfies each statement is itself proved": `Ensured` is what the ten public functions ensure
+pub record SameOutcome (a a′ : Answer) (img img′ : List ℕ) (d d′ : Desk) (buf buf′ : List ℕ) : Type 0 where
+  pub answers : a ≡ a′
+  pub images : img ≡ img′
+  pub desks : d ≡ d′
+  pub buffers : buf ≡ buf′
+
 abbrev pub OneOutcome : Type 0
-OneOutcome = (c : Call) (s : State) (o p : Outcome) → o ≡ step c s → p ≡ step c s → o ≡ p
+OneOutcome =
+    (c : Call) (s : State) (a a′ : Answer) (img img′ : List ℕ) (d d′ : Desk) (buf buf′ : List ℕ)
+    → Ensured c s a img d buf → Ensured c s a′ img′ d′ buf′ → SameOutcome a a′ img img′ d d′ buf buf′

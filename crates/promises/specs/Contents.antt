@@ -2,74 +2,139 @@
 use mathlib.Core.List.{List, [], _∷_, _++_}
 use mathlib.Core.Path.{_≡_}
 use mathlib.Core.Bool.{true, false}
-use Prim.Native.Nat.{ℕ, _+_, _*_, _/_, _≤_, _<_}
+use mathlib.Core.Logic.{_≢_, _⊎_}
+use Prim.Native.Nat.{ℕ, _+_, _-_, _*_, _/_, _≤_, _<_}
+use lib.Dec.{leb}
 use lib.ListN.{length, set}
 use Rattle.lists.specs.Lists.{if_then_else_, all}
-use Rattle.lists.specs.Parts.{part, over}
+use Rattle.lists.specs.Parts.{part, over, sector}
+use Rattle.volume.specs.Volume.{trailer}
 use Rattle.volume.specs.Directory.{contiguous, entryAt}
 use Rattle.records.specs.Records.{allowed, streamOf}
-use Rattle.files.specs.Files.{recordAt, records, extent}
+use Rattle.ownership.specs.Blocks.{block}
+use Rattle.ownership.specs.Owners.{logical}
+use Rattle.files.specs.Files.{recordAt, records, extent, stored}
 use Rattle.files.specs.Changes.{sectorsAt}
-use Rattle.desk.specs.Desk.{State, lunAt, aimed, fileOf}
-use Rattle.desk.specs.Answers.{accepts}
-use Rattle.desk.specs.Calls.{Write, step, Update, Read, Call, touch}
+use Rattle.luns.specs.declared.Lun.{Lun}
+use Rattle.luns.specs.declared.Place.the-variants.{At}
+use Rattle.luns.specs.Luns.{movedTo}
+use Rattle.desk.specs.Desk.{State, lunAt, fileOf, aimed}
+use Rattle.desk.specs.Answers.{Outcome}
+use Rattle.desk.specs.Calls.{Write, step, Update, Read, Call, touch, Format}
+use Rattle.desk.specs.declared.Desk.{Desk}
 use Rattle.desk.specs.declared.Report.the-variants.{Moved}
 use Rattle.desk.specs.declared.Answer.the-variants.{Done}
-use Rattle.promises.specs.Runs.{next}
-use Rattle.promises.specs.Sectors.{Bytes, Good, File, SameFile}
+use Rattle.promises.specs.Sectors.{Accepts, Bytes, File}
 use Rattle.promises.specs.Touches.{changes}
 
 -- unit i of the file with entry e: the data of record i, or the bytes of sector i; the same of the file in slot k
 unfoldable pub unitOf : List ℕ → List ℕ → ℕ → List ℕ
 unitOf img e i = if contiguous e then sectorsAt e i 1 img else recordAt img e i
 
-abbrev pub unitAt : State → ℕ → ℕ → List ℕ
-unitAt s k i = unitOf (s .image) (entryAt (s .image) k) i
+abbrev pub unitAt : List ℕ → ℕ → ℕ → List ℕ
+unitAt img k i = unitOf img (entryAt img k) i
 
 -- the slot that a LUN holds
 abbrev pub slotHeld : State → ℕ → ℕ
 slotHeld s lun = lunAt (s .desk) lun .slot
 
--- An accepted write "appends only": the file's records are the old ones and the new one; or it replaces exactly those sectors
-pub record Wrote (s s′ : State) (k i : ℕ) (bs : List ℕ) : Type 0 where
-  pub file-same : entryAt (s′ .image) k ≡ entryAt (s .image) k
-  pub appended-record : contiguous (entryAt (s .image) k) ≡ false
-      → (i ≡ length (records (s .image) (entryAt (s .image) k)))
-      × (records (s′ .image) (entryAt (s .image) k) ≡ records (s .image) (entryAt (s .image) k) ++ (bs ∷ []))
-  pub sectors-written : contiguous (entryAt (s .image) k) ≡ true → (j : ℕ) → j < length bs / 256
-      → unitAt s′ k (i + j) ≡ part (256 * j) 256 bs
-  pub sectors-kept : contiguous (entryAt (s .image) k) ≡ true → (j : ℕ) → j < extent (s .image) (entryAt (s .image) k)
-      → (j < i → unitAt s′ k j ≡ unitAt s k j) × (i + length bs / 256 ≤ j → unitAt s′ k j ≡ unitAt s k j)
+-- a desk in which one LUN is now u, and every other as it was
+pub record OnlyLun (d d′ : Desk) (lun : ℕ) (u : Lun) : Type 0 where
+  pub this-lun : lunAt d′ lun ≡ u
+  pub other-luns : (j : ℕ) → j ≢ lun → lunAt d′ j ≡ lunAt d j
+
+-- "After an accepted transfer the place is At the first record or sector moved": the LUN alone moves, to n units from i on
+abbrev pub Moves : State → Outcome → ℕ → ℕ → ℕ → Type 0
+Moves s o lun i n = OnlyLun (s .desk) (o .desk) lun (movedTo (At i n) (lunAt (s .desk) lun))
+
+-- Write: "appends only", so that the file's records are the old ones and the new one; or it replaces exactly those sectors
+pub record Wrote (s : State) (o : Outcome) (lun i : ℕ) (bs : List ℕ) : Type 0 where
+  pub answered : o .answer ≡ Done (Moved (length bs))
+  pub entry-same : entryAt (o .image) (slotHeld s lun) ≡ fileOf s lun
+  pub appended-record : contiguous (fileOf s lun) ≡ false
+      → (i ≡ length (records (s .image) (fileOf s lun)))
+      × (records (o .image) (fileOf s lun) ≡ records (s .image) (fileOf s lun) ++ (bs ∷ []))
+      × Moves s o lun i 1
+  pub sectors-written : contiguous (fileOf s lun) ≡ true → (j : ℕ) → j < length bs / 256
+      → unitOf (o .image) (fileOf s lun) (i + j) ≡ part (256 * j) 256 bs
+  pub sectors-kept : contiguous (fileOf s lun) ≡ true → (j : ℕ) → j < extent (s .image) (fileOf s lun)
+      → (j < i) ⊎ (i + length bs / 256 ≤ j) → unitOf (o .image) (fileOf s lun) j ≡ unitOf (s .image) (fileOf s lun) j
+  pub sectors-moved : contiguous (fileOf s lun) ≡ true → Moves s o lun i (length bs / 256)
 
 abbrev pub AcceptedWrite : Type 0
 AcceptedWrite =
-    (s : State) → Good s → (caller lun sel num : ℕ) (bs : List ℕ) → Bytes bs
-    → accepts (step (Write caller lun sel num bs) s .answer) ≡ true
-    → Wrote s (next (Write caller lun sel num bs) s) (slotHeld s lun) (aimed s lun sel num) bs
+    (s : State) (caller lun sel num : ℕ) (bs : List ℕ) → Accepts (Write caller lun sel num bs) s
+    → Wrote s (step (Write caller lun sel num bs) s) lun (aimed s lun sel num) bs
 
--- An accepted update replaces exactly that record
+-- Update: "replaces a record by one of the same length", and no other record
+pub record Updated (s : State) (o : Outcome) (lun i : ℕ) (bs : List ℕ) : Type 0 where
+  pub answered : o .answer ≡ Done (Moved (length bs))
+  pub entry-same : entryAt (o .image) (slotHeld s lun) ≡ fileOf s lun
+  pub sequential : contiguous (fileOf s lun) ≡ false
+  pub there : i < length (records (s .image) (fileOf s lun))
+  pub same-length : length bs ≡ length (unitOf (s .image) (fileOf s lun) i)
+  pub replaced : records (o .image) (fileOf s lun) ≡ set (records (s .image) (fileOf s lun)) i bs
+  pub record-moved : Moves s o lun i 1
+
 abbrev pub AcceptedUpdate : Type 0
 AcceptedUpdate =
-    (s : State) → Good s → (caller lun sel num : ℕ) (bs : List ℕ) → Bytes bs
-    → accepts (step (Update caller lun sel num bs) s .answer) ≡ true
-    → (entryAt (next (Update caller lun sel num bs) s .image) (slotHeld s lun) ≡ fileOf s lun)
-    × (records (next (Update caller lun sel num bs) s .image) (fileOf s lun)
-    ≡ set (records (s .image) (fileOf s lun)) (aimed s lun sel num) bs)
+    (s : State) → Bytes (s .image) → (caller lun sel num : ℕ) (bs : List ℕ) → Accepts (Update caller lun sel num bs) s
+    → Updated s (step (Update caller lun sel num bs) s) lun (aimed s lun sel num) bs
 
--- An accepted read hands over that record, or those sectors, and leaves the rest of the buffer
+-- Read: "as many sectors as the buffer holds, or up to the end", or "one record's data. Buffer bytes after it stay."
+abbrev pub least : ℕ → ℕ → ℕ
+least m n = if leb m n then m else n
+
+pub record HandedOver (s : State) (o : Outcome) (lun i : ℕ) (buf bs : List ℕ) : Type 0 where
+  pub answered : o .answer ≡ Done (Moved (length bs))
+  pub image-kept : o .image ≡ s .image
+  pub room : length bs ≤ length buf
+  pub buffer-has : o .buffer ≡ over bs buf
+  pub one-record : contiguous (fileOf s lun) ≡ false → (bs ≡ unitOf (s .image) (fileOf s lun) i) × Moves s o lun i 1
+  pub how-many : contiguous (fileOf s lun) ≡ true → length bs ≡ 256 * least (length buf / 256) (extent (s .image) (fileOf s lun) - i)
+  pub each-sector : contiguous (fileOf s lun) ≡ true → (j : ℕ) → 256 * j < length bs
+      → part (256 * j) 256 bs ≡ unitOf (s .image) (fileOf s lun) (i + j)
+  pub sectors-moved : contiguous (fileOf s lun) ≡ true → Moves s o lun i (length bs / 256)
+
 abbrev pub AcceptedRead : Type 0
 AcceptedRead =
-    (s : State) → Good s → (caller lun sel num : ℕ) (buf : List ℕ) → accepts (step (Read caller lun sel num buf) s .answer) ≡ true
-    → (bs : List ℕ) × (step (Read caller lun sel num buf) s .buffer ≡ over bs buf)
-    × (step (Read caller lun sel num buf) s .answer ≡ Done (Moved (length bs)))
-    × (contiguous (fileOf s lun) ≡ false → bs ≡ unitAt s (slotHeld s lun) (aimed s lun sel num))
-    × (contiguous (fileOf s lun) ≡ true → (j : ℕ) → 256 * j < length bs
-    → part (256 * j) 256 bs ≡ unitAt s (slotHeld s lun) (aimed s lun sel num + j))
+    (s : State) (caller lun sel num : ℕ) (buf : List ℕ) → Accepts (Read caller lun sel num buf) s
+    → (bs : List ℕ) × HandedOver s (step (Read caller lun sel num buf) s) lun (aimed s lun sel num) buf bs
+
+-- slot k holds the same file: entry, access block, sectors, bytes and, if it is sequential, records
+pub record SameFile (img img′ : List ℕ) (k : ℕ) : Type 0 where
+  pub entry-same : entryAt img′ k ≡ entryAt img k
+  pub block-same : contiguous (entryAt img k) ≡ false → block img′ (entryAt img k) ≡ block img (entryAt img k)
+  pub places-same : logical img′ (entryAt img k) ≡ logical img (entryAt img k)
+  pub bytes-same : stored img′ (entryAt img k) ≡ stored img (entryAt img k)
+  pub records-same : contiguous (entryAt img k) ≡ false → records img′ (entryAt img k) ≡ records img (entryAt img k)
 
 -- "every other call leaves every file's contents, but for the deleted one and for format": of each call, the files that it does not
 -- touch
 abbrev pub OtherFilesKept : Type 0
-OtherFilesKept = (s : State) → Good s → (c : Call) (k : ℕ) → File s k → changes (touch c s) k ≡ false → SameFile s (next c s) k
+OtherFilesKept =
+    (s : State) → Bytes (s .image) → (c : Call) (k : ℕ) → File (s .image) k → changes (touch c s) k ≡ false
+    → SameFile (s .image) (step c s .image) k
+
+-- "A write or update leaves every other file's bytes as they were."
+abbrev pub OthersKept : Type 0
+OthersKept =
+    (s : State) → Bytes (s .image) → (caller lun sel num : ℕ) (bs : List ℕ) (k : ℕ) → File (s .image) k → k ≢ slotHeld s lun
+    → (SameFile (s .image) (step (Write caller lun sel num bs) s .image) k)
+    × (SameFile (s .image) (step (Update caller lun sel num bs) s .image) k)
+
+-- No call but format changes the image's length, or a byte of sector 0 or of the trailer. (Entries and access blocks of files that a
+-- call does not name: `OtherFilesKept`)
+pub record SameFrame (img img′ : List ℕ) : Type 0 where
+  pub as-long : length img′ ≡ length img
+  pub vid-same : sector 0 img′ ≡ sector 0 img
+  pub trailer-same : trailer img′ ≡ trailer img
+
+abbrev pub NoFormat : Call → Type 0
+NoFormat c = (id : List ℕ) (n : ℕ) → c ≢ Format id n
+
+abbrev pub FrameKept : Type 0
+FrameKept = (s : State) → Bytes (s .image) → (c : Call) → NoFormat c → SameFrame (s .image) (step c s .image)
 
 -- "Two record lists allowed for one record length never make the same stream."
 abbrev pub OneStreamEach : Type 0

@@ -1,6 +1,8 @@
--- The contents of demand 2 over runs: what was written under a number is read under it.
+-- The contents of demand 2 over calls "where each call is given the image that the last one left": what was written under a number is
+-- read under it. Any desk may come with each call.
 use mathlib.Core.Bool.{Bool, true, not, false}
 use mathlib.Core.List.{List, [], _∷_}
+use mathlib.Core.Logic.{_≢_}
 use mathlib.Core.Path.{_≡_}
 use Prim.Native.Nat.{ℕ, _<_, _+_, _*_, _/_}
 use lib.ListN.{length}
@@ -9,62 +11,87 @@ use Rattle.lists.specs.Parts.{over, part}
 use Rattle.volume.specs.Directory.{entryAt, contiguous}
 use Rattle.files.specs.Files.{extent}
 use Rattle.desk.specs.Desk.{State, fileOf, aimed}
-use Rattle.desk.specs.Answers.{accepts}
-use Rattle.desk.specs.Calls.{Call, step, touch, Write, Read}
+use Rattle.desk.specs.Answers.{accepts, moved}
+use Rattle.desk.specs.Calls.{step, touch, Write, Update, Read}
 use Rattle.desk.specs.declared.Report.the-variants.{Moved}
-use Rattle.desk.specs.declared.Answer.the-variants.{Done}
-use Rattle.promises.specs.Runs.{next, run}
+use Rattle.work.specs.declared.Refusal.the-variants.{PastEnd}
+use Rattle.desk.specs.declared.Answer.the-variants.{Done, Refused}
+use Rattle.promises.specs.Runs.{Visit, found, through}
 use Rattle.promises.specs.Touches.{ends}
-use Rattle.promises.specs.Sectors.{Good, AllBytes, File, Bytes}
+use Rattle.promises.specs.Sectors.{Sound, Bytes, VisitBytes, Accepts, File}
 use Rattle.promises.specs.Contents.{unitAt, slotHeld}
 
--- no accepted call of the run ends what unit i of slot k held: no "update, a later write to that contiguous sector, a delete or a
--- format"
-unfoldable pub lasts : List Call → State → ℕ → ℕ → Bool
-lasts [] s k i = true
-lasts (c ∷ cs) s k i = not (accepts (step c s .answer) and ends (touch c s) k i) and lasts cs (next c s) k i
+-- no accepted call among the visits ends what unit i of slot k held: no "update, a later write to that contiguous sector, a delete or
+-- a format"
+unfoldable pub lasts : List Visit → List ℕ → ℕ → ℕ → Bool
+lasts [] img k i = true
+lasts (v ∷ vs) img k i =
+    not (accepts (step (v .call) (found v img) .answer) and ends (touch (v .call) (found v img)) k i)
+    and lasts vs (step (v .call) (found v img) .image) k i
 
 -- a write to a sequential file is none of these: it ends no record that is there, of its own file or another
 abbrev pub AppendEndsNone : Type 0
 AppendEndsNone =
-    (s : State) → Good s → (caller lun sel num : ℕ) (bs : List ℕ) → accepts (step (Write caller lun sel num bs) s .answer) ≡ true
+    (s : State) (caller lun sel num : ℕ) (bs : List ℕ) → Accepts (Write caller lun sel num bs) s
     → contiguous (fileOf s lun) ≡ false → (k i : ℕ) → i < extent (s .image) (entryAt (s .image) k)
     → ends (touch (Write caller lun sel num bs) s) k i ≡ false
 
--- "What was written under a record number is read under it until ..": whatever calls, refused ones among them, come between
-pub record Lasting (s s′ : State) (k i : ℕ) : Type 0 where
-  pub same-entry : entryAt (s′ .image) k ≡ entryAt (s .image) k
-  pub still-there : i < extent (s′ .image) (entryAt (s .image) k)
-  pub same-unit : unitAt s′ k i ≡ unitAt s k i
+-- Any record or sector of a sound volume, whatever calls, refused ones among them, come after
+pub record Lasting (img img′ : List ℕ) (k i : ℕ) : Type 0 where
+  pub same-entry : entryAt img′ k ≡ entryAt img k
+  pub still-there : i < extent img′ (entryAt img k)
+  pub same-unit : unitAt img′ k i ≡ unitAt img k i
 
 abbrev pub Lasts : Type 0
 Lasts =
-    (s : State) → Good s → (k i : ℕ) → File s k → i < extent (s .image) (entryAt (s .image) k)
-    → (cs : List Call) → AllBytes cs → lasts cs s k i ≡ true → Lasting s (run cs s) k i
+    (img : List ℕ) → Sound img → (k i : ℕ) → File img k → i < extent img (entryAt img k)
+    → (vs : List Visit) → VisitBytes vs → lasts vs img k i ≡ true → Lasting img (through vs img) k i
 
--- The three together: what an accepted write left under number i of slot k, whatever calls come between, any accepted read of it hands
--- over, by whichever LUN and caller
-pub record Between (s : State) (k i : ℕ) (cs : List Call) (t : State) : Type 0 where
-  pub are-bytes : AllBytes cs
-  pub nothing-ends-it : lasts cs s k i ≡ true
-  pub reached : t ≡ run cs s
+-- From an image to another, by calls of which none ends unit i of slot k
+pub record Between (img : List ℕ) (k i : ℕ) (vs : List Visit) (img′ : List ℕ) : Type 0 where
+  pub are-bytes : VisitBytes vs
+  pub nothing-ends-it : lasts vs img k i ≡ true
+  pub reached : img′ ≡ through vs img
 
+-- "What was written under a record number is read under it": what an accepted write left there, whatever calls come between, any
+-- accepted read of it hands over, by whichever desk, LUN and caller
 abbrev pub WrittenIsRead : Type 0
 WrittenIsRead =
-    (s : State) → Good s → (caller lun sel num : ℕ) (bs : List ℕ) → Bytes bs
-    → accepts (step (Write caller lun sel num bs) s .answer) ≡ true → contiguous (fileOf s lun) ≡ false
-    → (cs : List Call) (t : State)
-    → Between (next (Write caller lun sel num bs) s) (slotHeld s lun) (aimed s lun sel num) cs t
-    → (caller′ lun′ sel′ num′ : ℕ) (buf : List ℕ) → accepts (step (Read caller′ lun′ sel′ num′ buf) t .answer) ≡ true
+    (s : State) → Bytes (s .image) → (caller lun sel num : ℕ) (bs : List ℕ) → Bytes bs → Accepts (Write caller lun sel num bs) s
+    → contiguous (fileOf s lun) ≡ false → (vs : List Visit) (t : State)
+    → Between (step (Write caller lun sel num bs) s .image) (slotHeld s lun) (aimed s lun sel num) vs (t .image)
+    → (caller′ lun′ sel′ num′ : ℕ) (buf : List ℕ) → Accepts (Read caller′ lun′ sel′ num′ buf) t
     → slotHeld t lun′ ≡ slotHeld s lun → aimed t lun′ sel′ num′ ≡ aimed s lun sel num
     → (step (Read caller′ lun′ sel′ num′ buf) t .buffer ≡ over bs buf)
     × (step (Read caller′ lun′ sel′ num′ buf) t .answer ≡ Done (Moved (length bs)))
 
--- the same of sector j of a contiguous write, as long as nothing ends that sector: it is that unit of the file
-abbrev pub WrittenSectorLasts : Type 0
-WrittenSectorLasts =
-    (s : State) → Good s → (caller lun sel num : ℕ) (bs : List ℕ) → Bytes bs
-    → accepts (step (Write caller lun sel num bs) s .answer) ≡ true → contiguous (fileOf s lun) ≡ true
-    → (j : ℕ) → j < length bs / 256 → (cs : List Call) (t : State)
-    → Between (next (Write caller lun sel num bs) s) (slotHeld s lun) (aimed s lun sel num + j) cs t
-    → unitAt t (slotHeld s lun) (aimed s lun sel num + j) ≡ part (256 * j) 256 bs
+-- the same of what an accepted update put in a record's place
+abbrev pub UpdatedIsRead : Type 0
+UpdatedIsRead =
+    (s : State) → Bytes (s .image) → (caller lun sel num : ℕ) (bs : List ℕ) → Bytes bs → Accepts (Update caller lun sel num bs) s
+    → (vs : List Visit) (t : State)
+    → Between (step (Update caller lun sel num bs) s .image) (slotHeld s lun) (aimed s lun sel num) vs (t .image)
+    → (caller′ lun′ sel′ num′ : ℕ) (buf : List ℕ) → Accepts (Read caller′ lun′ sel′ num′ buf) t
+    → slotHeld t lun′ ≡ slotHeld s lun → aimed t lun′ sel′ num′ ≡ aimed s lun sel num
+    → (step (Read caller′ lun′ sel′ num′ buf) t .buffer ≡ over bs buf)
+    × (step (Read caller′ lun′ sel′ num′ buf) t .answer ≡ Done (Moved (length bs)))
+
+-- and of sector j of a contiguous write, as long as nothing ends that sector: any accepted read, of whatever run of sectors, that covers
+-- it as its sector a has it there in its buffer
+abbrev pub WrittenSectorIsRead : Type 0
+WrittenSectorIsRead =
+    (s : State) → Bytes (s .image) → (caller lun sel num : ℕ) (bs : List ℕ) → Bytes bs → Accepts (Write caller lun sel num bs) s
+    → contiguous (fileOf s lun) ≡ true → (j : ℕ) → j < length bs / 256 → (vs : List Visit) (t : State)
+    → Between (step (Write caller lun sel num bs) s .image) (slotHeld s lun) (aimed s lun sel num + j) vs (t .image)
+    → (caller′ lun′ sel′ num′ : ℕ) (buf : List ℕ) → Accepts (Read caller′ lun′ sel′ num′ buf) t
+    → slotHeld t lun′ ≡ slotHeld s lun → (a : ℕ) → aimed t lun′ sel′ num′ + a ≡ aimed s lun sel num + j
+    → 256 * a < moved (step (Read caller′ lun′ sel′ num′ buf) t .answer)
+    → part (256 * a) 256 (step (Read caller′ lun′ sel′ num′ buf) t .buffer) ≡ part (256 * j) 256 bs
+
+-- Nor is a read of what lasts ever refused for want of it: $C2 is not its answer
+abbrev pub NeverPastEnd : Type 0
+NeverPastEnd =
+    (img : List ℕ) → Sound img → (k i : ℕ) → File img k → i < extent img (entryAt img k)
+    → (vs : List Visit) (t : State) → Between img k i vs (t .image)
+    → (caller lun sel num : ℕ) (buf : List ℕ) → slotHeld t lun ≡ k → aimed t lun sel num ≡ i
+    → step (Read caller lun sel num buf) t .answer ≢ Refused PastEnd

@@ -6,5 +6,8 @@ pub mod Answers
 pub mod Sectors
 pub mod Contents
 pub mod Lasting
+pub mod Filing
+pub mod Seating
+pub mod Counts
 pub mod Conclusions
 pub mod Demands

@@ -1,23 +1,24 @@
--- Demand 3, over runs from any formatted volume.
+-- Demand 3: where the sectors of a sound volume are, and that volumes stay sound.
 use mathlib.Core.List.{List, [], _∷_}
 use mathlib.Core.Path.{_≡_}
 use mathlib.Core.Bool.{true, false}
 use mathlib.Core.Logic.{_≢_}
 use Prim.Native.Nat.{ℕ, _<_, _*_}
 use lib.ListN.{getD, length}
-use Rattle.lists.specs.Lists.{among}
+use lib.Dec.{leb}
+use Rattle.numbers.specs.Numbers.{mostSectors}
+use Rattle.lists.specs.Lists.{among, _or_}
 use Rattle.lists.specs.Parts.{sectors}
-use Rattle.volume.specs.Formatted.{formatted}
-use Rattle.volume.specs.Names.{volumeId}
-use Rattle.volume.specs.Volume.{inRange, dirs, system, sat}
+use Rattle.volume.specs.Volume.{dirs, system, sat}
 use Rattle.volume.specs.Directory.{entryAt, unused, contiguous, start}
 use Rattle.volume.specs.Sat.{marked}
 use Rattle.ownership.specs.Owners.{logical, allOwned}
-use Rattle.files.specs.Files.{sound, stored, records}
+use Rattle.files.specs.Files.{sound}
 use Rattle.luns.specs.Luns.{fits}
-use Rattle.desk.specs.Calls.{Call, sent, Write, Update}
-use Rattle.desk.specs.Desk.{State, state, emptyDesk, lunAt}
-use Rattle.promises.specs.Runs.{run, next}
+use Rattle.desk.specs.Desk.{State}
+use Rattle.desk.specs.Answers.{accepts}
+use Rattle.desk.specs.Calls.{Call, sent, Format, step}
+use Rattle.promises.specs.Runs.{run, next, Visit, through}
 
 -- what a caller sends is bytes; so are the bytes of an image
 abbrev pub Bytes : List ℕ → Type 0
@@ -27,62 +28,71 @@ abbrev pub AllBytes : List Call → Type 0
 AllBytes [] = Unit {0}
 AllBytes (c ∷ cs) = Bytes (sent c) × AllBytes cs
 
--- a state in which the service works: sound and fitting
+abbrev pub VisitBytes : List Visit → Type 0
+VisitBytes [] = Unit {0}
+VisitBytes (v ∷ vs) = Bytes (sent (v .call)) × VisitBytes vs
+
+-- a call that is not refused
+abbrev pub Accepts : Call → State → Type 0
+Accepts c s = accepts (step c s .answer) ≡ true
+
+-- a sound volume; and a state in which the service works, a sound volume and a desk that fits it
+pub record Sound (img : List ℕ) : Type 0 where
+  pub is-sound : sound img ≡ true
+  pub is-bytes : Bytes img
+
 pub record Good (s : State) : Type 0 where
-  pub is-sound : sound (s .image) ≡ true
+  pub volume : Sound (s .image)
   pub is-fitting : fits (s .image) (s .desk .luns) ≡ true
-  pub is-bytes : Bytes (s .image)
-
--- "From a formatted volume and any calls": sound and fitting after every call
-unfoldable pub fresh : List ℕ → ℕ → ℕ → State
-fresh id d t = state (formatted id d t) emptyDesk
-
-abbrev pub StaysGood : Type 0
-StaysGood =
-    (id : List ℕ) (d t : ℕ) → volumeId id ≡ true → inRange t d ≡ true → (cs : List Call) → AllBytes cs → Good (run cs (fresh id d t))
 
 -- slot k holds a file; the physical sector of its logical sector a
-pub record File (s : State) (k : ℕ) : Type 0 where
-  pub slot : k < 8 * dirs (s .image)
-  pub used : unused (entryAt (s .image) k) ≡ false
+pub record File (img : List ℕ) (k : ℕ) : Type 0 where
+  pub slot : k < 8 * dirs img
+  pub used : unused (entryAt img k) ≡ false
 
-abbrev pub leadsTo : State → ℕ → ℕ → ℕ
-leadsTo s k a = getD (logical (s .image) (entryAt (s .image) k)) a 0
+abbrev pub leadsTo : List ℕ → ℕ → ℕ → ℕ
+leadsTo img k a = getD (logical img (entryAt img k)) a 0
 
-abbrev pub hasSector : State → ℕ → ℕ → Type 0
-hasSector s k a = a < length (logical (s .image) (entryAt (s .image) k))
+abbrev pub hasSector : List ℕ → ℕ → ℕ → Type 0
+hasSector img k a = a < length (logical img (entryAt img k))
 
 -- "two pairs of file and logical sector never lead to one physical sector"
-abbrev pub OneSectorEach : Type 0
-OneSectorEach =
-    (s : State) → Good s → (j k a b : ℕ) → File s j → File s k → hasSector s j a → hasSector s k b → leadsTo s j a ≡ leadsTo s k b
-    → (j ≡ k) × (a ≡ b)
+abbrev pub OneSectorEach : List ℕ → Type 0
+OneSectorEach img =
+    (j k a b : ℕ) → File img j → File img k → hasSector img j a → hasSector img k b → leadsTo img j a ≡ leadsTo img k b → (j ≡ k) × (a ≡ b)
 
 -- "none leads to a system sector or an access block"
-abbrev pub NoSystemSector : Type 0
-NoSystemSector =
-    (s : State) → Good s → (k a : ℕ) → File s k → hasSector s k a → among (leadsTo s k a) (system (s .image)) ≡ false
+abbrev pub NoSystemSector : List ℕ → Type 0
+NoSystemSector img = (k a : ℕ) → File img k → hasSector img k a → among (leadsTo img k a) (system img) ≡ false
 
-abbrev pub NoAccessBlock : Type 0
-NoAccessBlock =
-    (s : State) → Good s → (j k a : ℕ) → File s j → File s k → contiguous (entryAt (s .image) j) ≡ false → hasSector s k a
-    → leadsTo s k a ≢ start (entryAt (s .image) j)
+abbrev pub NoAccessBlock : List ℕ → Type 0
+NoAccessBlock img =
+    (j k a : ℕ) → File img j → File img k → contiguous (entryAt img j) ≡ false → hasSector img k a
+    → leadsTo img k a ≢ start (entryAt img j)
 
--- "exactly the sectors nobody owns are marked free"
-abbrev pub MarkedExactly : Type 0
-MarkedExactly =
-    (s : State) → Good s → (x : ℕ) → x < sectors (s .image) → marked (sat (s .image)) x ≡ among x (allOwned (s .image))
+-- "exactly the sectors nobody owns are marked free": of all the numbers that the SAT has, those from T on count as owned
+abbrev pub MarkedExactly : List ℕ → Type 0
+MarkedExactly img = (x : ℕ) → x < mostSectors → marked (sat img) x ≡ (leb (sectors img) x or among x (allOwned img))
 
--- slot k holds the same file, with the same sectors, the same bytes and, if it is sequential, the same records
-pub record SameFile (s s′ : State) (k : ℕ) : Type 0 where
-  pub entry-same : entryAt (s′ .image) k ≡ entryAt (s .image) k
-  pub places-same : logical (s′ .image) (entryAt (s .image) k) ≡ logical (s .image) (entryAt (s .image) k)
-  pub bytes-same : stored (s′ .image) (entryAt (s .image) k) ≡ stored (s .image) (entryAt (s .image) k)
-  pub records-same : contiguous (entryAt (s .image) k) ≡ false
-      → records (s′ .image) (entryAt (s .image) k) ≡ records (s .image) (entryAt (s .image) k)
+pub record InOrder (img : List ℕ) : Type 0 where
+  pub one-sector-each : OneSectorEach img
+  pub no-system-sector : NoSystemSector img
+  pub no-access-block : NoAccessBlock img
+  pub marked-exactly : MarkedExactly img
 
--- "A write or update leaves every other file's bytes as they were."
-abbrev pub OthersKept : Type 0
-OthersKept =
-    (s : State) → Good s → (caller lun sel num : ℕ) (bs : List ℕ) → Bytes bs → (k : ℕ) → File s k → k ≢ lunAt (s .desk) lun .slot
-    → (SameFile s (next (Write caller lun sel num bs) s) k) × (SameFile s (next (Update caller lun sel num bs) s) k)
+-- every sound volume is in order, wherever it comes from
+abbrev pub SoundInOrder : Type 0
+SoundInOrder = (img : List ℕ) → sound img ≡ true → InOrder img
+
+-- "From a formatted volume and any calls, each given the image and desk that the last one left": from an accepted format of any image
+-- on, the volume is sound and in order, and the desk fits it
+abbrev pub StaysGood : Type 0
+StaysGood =
+    (s : State) (id : List ℕ) (n : ℕ) → Accepts (Format id n) s → (cs : List Call) → AllBytes cs
+    → Good (run cs (next (Format id n) s)) × InOrder (run cs (next (Format id n) s) .image)
+
+-- the same of the volume alone, where any desk comes with each call
+abbrev pub StaysSound : Type 0
+StaysSound =
+    (s : State) (id : List ℕ) (n : ℕ) → Accepts (Format id n) s → (vs : List Visit) → VisitBytes vs
+    → Sound (through vs (step (Format id n) s .image)) × InOrder (through vs (step (Format id n) s .image))

@@ -24,26 +24,28 @@ use Rattle.luns.specs.Luns.{luns-open}
 use Rattle.work.specs.Refusals.{refusals-open}
 use Rattle.work.specs.Volumes.{volumes-open}
 use Rattle.work.specs.Transfers.{transfers-open}
-use Rattle.desk.specs.Calls.{Call, step, Format, Allocate, Assign, Delete, Write, calls-open}
+use Rattle.desk.specs.Calls.{Call, Format, Allocate, Assign, Delete, Write, calls-open}
 use Rattle.desk.specs.Answers.{Outcome, status, moved, answers-open}
 use Rattle.desk.specs.Desk.{state, State, emptyDesk, desk-open}
+use Rattle.promises.specs.Runs.{trace, next}
 
 -- a step: a call, and what is looked at in the image after it
 pub record Step : Type 0 where
   pub call : Call
   pub look : List ℕ → List ℕ
 
--- each call on what the one before it left: its status, its length, and what is looked at
-shown : Step → Outcome → List ℕ
-shown t o = status (o .answer) ∷ moved (o .answer) ∷ t .look (o .image)
+unfoldable pub calls : List Step → List Call
+calls [] = []
+calls (t ∷ ts) = t .call ∷ calls ts
 
-played : List Step → Step → Outcome → List (List ℕ)
-played [] t o = shown t o ∷ []
-played (u ∷ us) t o = shown t o ∷ played us u (step (u .call) (state (o .image) (o .desk)))
+-- of each call its status, its length, and what is looked at
+shown : List Step → List Outcome → List (List ℕ)
+shown [] os = []
+shown (t ∷ ts) [] = []
+shown (t ∷ ts) (o ∷ os) = (status (o .answer) ∷ moved (o .answer) ∷ t .look (o .image)) ∷ shown ts os
 
 followed : List Step → State → List (List ℕ)
-followed [] s = []
-followed (t ∷ ts) s = played ts t (step (t .call) s)
+followed ts s = shown ts (trace (calls ts) s)
 
 -- user 5, no catalog, a filename of one letter, extension A
 unfoldable pub desc : ℕ → List ℕ
@@ -143,5 +145,5 @@ unfolding lists-open parts-open names-open volume-open directory-open blocks-ope
 service-open = tt
 
 pub small-volume : SmallVolume
-unfolding steps settled story blank followed played shown desc sat2 at bytesIn segments second service-open
+unfolding steps settled story blank followed calls shown trace next desc sat2 at bytesIn segments second service-open
 small-volume = refl

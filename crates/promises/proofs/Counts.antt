@@ -1,0 +1,143 @@
+-- The free sectors after each call.
+use mathlib.Core.Path.{_≡_, refl, ap, sym, _∙_}
+use mathlib.Core.Bool.{true, false, Bool}
+use mathlib.Core.List.{List}
+use Prim.Native.Nat.{ℕ, _+_, _*_, _<_}
+use native.Mathlib.Omega.{arith}
+use lib.ListN.{length}
+use Rattle.lists.specs.Parts.{sectors, blanks}
+use Rattle.lists.specs.Lists.{index, if_then_else_}
+use Rattle.lists.proofs.Tests.{zeros-blanks}
+use Rattle.lists.proofs.Ranges.{length-range}
+use Rattle.volume.specs.Volume.{dirs, sat}
+use Rattle.volume.specs.Directory.{entries, entryAt, unused, contiguous, named, recordLength}
+use Rattle.volume.specs.Sat.{free, freeSectors, lowestRun}
+use Rattle.ownership.specs.Owners.{owned}
+use Rattle.files.specs.Files.{sound}
+use Rattle.files.specs.Changes.{taken, needed, updated, overwritten, deleted}
+use Rattle.files.proofs.SoundFacts.{facts}
+use Rattle.files.proofs.UsedSlots.{named-used}
+use Rattle.files.proofs.OneFileChanged.{sectors-kept}
+use Rattle.keeping.proofs.AllocateKeeps.{allocate-changed, allocate-sound, allocate-owned}
+use Rattle.keeping.proofs.DeleteKeeps.{delete-changed, delete-sound}
+use Rattle.keeping.proofs.OverwriteKeeps.{overwritten-sat}
+use Rattle.keeping.proofs.FreeCounts.{changed-free, unused-count, run-count, records-count, appended-free, encoded-count, needed-count}
+use Rattle.keeping.proofs.SlotFound.{slot-holds}
+use Rattle.work.specs.Volumes.{exists, slotOf, newFile}
+use Rattle.work.specs.Transfers.{written, writing, updating, reading, moving}
+use Rattle.desk.specs.Desk.{State, fileOf, aimed}
+use Rattle.desk.specs.Answers.{Outcome}
+use Rattle.desk.specs.Calls.{Call, Format, Check, Allocate, Assign, Close, Rewind, Delete, Read, Write, Update, quietly, transferred, checked, done}
+use Rattle.promises.specs.Sectors.{Bytes}
+use Rattle.promises.specs.Contents.{slotHeld, NoFormat}
+use Rattle.promises.specs.Counts.{sectorsHeld, growth, takes, gives, FreeCount}
+use Rattle.promises.proofs.Passing.{Accepted, accepted}
+use Rattle.promises.proofs.Told.{AllocateTold, allocate-told, DeleteTold, delete-told, WriteTold, write-told, UpdateTold, update-told}
+use Rattle.promises.proofs.Held.{entryOf, ready-sound}
+use Rattle.promises.proofs.Filing.{can-allocate, slot-there}
+use Rattle.promises.proofs.Appending.{Appending, appending}
+use Rattle.promises.proofs.Overwriting.{Overwriting, overwriting, overwrite-rewrites}
+use Rattle.promises.proofs.Updating.{rewrites, update-sat}
+use Rattle.promises.proofs.Writing.{written-run, written-records}
+
+-- the SAT stays
+free-kept : (v v′ : List ℕ) → sat v′ ≡ sat v → sectors v′ ≡ sectors v → free v′ ≡ free v
+unfolding free freeSectors
+free-kept v v′ a b = rw (a, b)
+
+-- Allocate takes the run
+free-allocate : (caller : ℕ) (desc : List ℕ) (k n l : ℕ) (s : State) → AllocateTold s caller desc k n l
+    → free (newFile (s .image) desc k n l) + taken k n ≡ free (s .image)
+unfolding newFile
+free-allocate caller desc k n l s T =
+    let v : List ℕ = s .image in
+    let A = can-allocate caller desc k n l s T in
+    let c = changed-free v _ _ _ _ (allocate-changed A) (facts v (ready-sound s (T .is-ready))) (allocate-sound A) in
+    let new = ap length (allocate-owned A) ∙ length-range (lowestRun (taken k n) v) (taken k n) in
+    omega (arith, c, new, unused-count v (entryAt v (index unused (entries v))) (A .slot-unused))
+
+-- Delete gives back what the file has
+held-count : (v : List ℕ) → sound v ≡ true → (k : ℕ) → k < 8 * dirs v → unused (entryAt v k) ≡ false → length (owned v (entryAt v k)) ≡ sectorsHeld v (entryAt v k)
+unfolding sectorsHeld
+held-count v h k l u = go (contiguous (entryAt v k)) refl
+  where
+    go : (b : Bool) → contiguous (entryAt v k) ≡ b → length (owned v (entryAt v k)) ≡ sectorsHeld v (entryAt v k)
+    go true q = rw q (run-count v (entryAt v k) u q)
+    go false q = rw q (records-count v (facts v h) k l u q)
+
+found-used : (caller : ℕ) (desc : List ℕ) (s : State) → DeleteTold s caller desc → unused (entryAt (s .image) (slotOf (s .image) desc)) ≡ false
+unfolding slotOf exists
+found-used caller desc s T =
+    named-used desc (entryAt (s .image) (slotOf (s .image) desc)) (T .named-file .described) (slot-holds (s .image) (named desc) (T .named-file .found))
+
+free-delete : (caller : ℕ) (desc : List ℕ) (s : State) → DeleteTold s caller desc
+    → free (deleted (slotOf (s .image) desc) (s .image)) ≡ free (s .image) + sectorsHeld (s .image) (entryAt (s .image) (slotOf (s .image) desc))
+free-delete caller desc s T =
+    let v : List ℕ = s .image in
+    let k : ℕ = slotOf v desc in
+    let h = ready-sound s (T .is-ready) in
+    let l = slot-there caller desc s T in
+    let c = changed-free v _ k _ _ (delete-changed v k h l) (facts v h) (delete-sound v k h l) in
+    omega (arith, c, unused-count (deleted k v) (blanks 32) (zeros-blanks 32), held-count v h k l (found-used caller desc s T))
+
+-- Write: an append takes the sectors that it needs
+module _ (caller lun sel num : ℕ) (bs : List ℕ) (s : State) (T : WriteTold s caller lun sel num bs) where
+  abbrev v : List ℕ
+  v = s .image
+
+  abbrev e : List ℕ
+  e = entryOf s lun
+
+  abbrev i : ℕ
+  i = aimed s lun sel num
+
+  needs : contiguous e ≡ false → needed v e bs ≡ growth v e (length bs)
+  unfolding growth
+  needs q =
+      let A : Appending s lun i bs = appending caller lun sel num bs s T q in
+      let H = A .held-file in
+      rw (sym (encoded-count (recordLength e) bs)) (needed-count v (H .facts-of) (slotHeld s lun) (H .slot-in) (H .lun-ok .used) q bs)
+
+  free-write : free (written e i bs v) + (if contiguous e then 0 else growth v e (length bs)) ≡ free v + 0
+  free-write = go (contiguous e) refl
+    where
+      go : (b : Bool) → contiguous e ≡ b → free (written e i bs v) + (if contiguous e then 0 else growth v e (length bs)) ≡ free v + 0
+      go true q =
+          let O : Overwriting s lun i bs = overwriting caller lun sel num bs s T q in
+          let H = O .held-file in
+          let R = overwrite-rewrites s lun i bs O in
+          let f : free (overwritten e i bs v) ≡ free v =
+          free-kept v (overwritten e i bs v)
+          (overwritten-sat v (H .facts-of) (slotHeld s lun) (H .slot-in) (H .lun-ok .used) (O .runs) i _ bs (O .inside) (O .in-sectors .whole))
+          (sectors-kept v _ _ _ _ (R .changed)) in
+          rw (q, written-run e i bs v q) (omega (arith, f))
+      go false q =
+          let A : Appending s lun i bs = appending caller lun sel num bs s T q in
+          let H = A .held-file in
+          let f = appended-free v (H .facts-of) (slotHeld s lun) (H .slot-in) (H .lun-ok .used) (A .sequential) bs (A .fine) (A .enough) (A .few) in
+          rw (q, written-records e i bs v q, sym (needs q)) (omega (arith, f))
+
+-- Update leaves the SAT
+free-update : (caller lun sel num : ℕ) (bs : List ℕ) (s : State) → Bytes (s .image) → UpdateTold s caller lun sel num bs
+    → free (updated (entryOf s lun) (aimed s lun sel num) bs (s .image)) ≡ free (s .image)
+free-update caller lun sel num bs s b T =
+    let R = rewrites caller lun sel num bs s b T in
+    free-kept (s .image) _ (update-sat caller lun sel num bs s b T) (sectors-kept (s .image) _ _ _ _ (R .changed))
+
+counted : (c : Call) (s : State) → Bytes (s .image) → NoFormat c → Accepted c s → free (done c s .image) + takes c s ≡ free (s .image) + gives c s
+unfolding done quietly checked transferred takes gives fileOf reading writing updating moving taken
+counted (Format id n) s b h a = absurd (h id n refl)
+counted Check s b h a = refl
+counted (Allocate caller desc k n l) s b h a = free-allocate caller desc k n l s (allocate-told caller desc k n l s a) ∙ omega arith
+counted (Assign caller lun desc mode end) s b h a = refl
+counted (Close caller lun) s b h a = refl
+counted (Rewind caller lun) s b h a = refl
+counted (Delete caller desc) s b h a = omega (arith, free-delete caller desc s (delete-told caller desc s a))
+counted (Read caller lun sel num buf) s b h a = refl
+counted (Write caller lun sel num bs) s b h a = free-write caller lun sel num bs s (write-told caller lun sel num bs s a)
+counted (Update caller lun sel num bs) s b h a = omega (arith, free-update caller lun sel num bs s b (update-told caller lun sel num bs s a))
+
+pub free-count : FreeCount
+free-count s b c n h =
+    let a = accepted c s h in
+    ap (λ (o : Outcome). free (o .image) + takes c s) (a .is) ∙ counted c s b n a

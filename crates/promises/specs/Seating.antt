@@ -1,0 +1,56 @@
+-- Demand 2, opening: what accepted assign, close and rewind do. The image stays.
+use mathlib.Core.List.{List}
+use mathlib.Core.Path.{_≡_}
+use mathlib.Core.Bool.{Bool, true, false}
+use mathlib.Core.Logic.{_⊎_}
+use Prim.Native.Nat.{ℕ, _-_, _≤_}
+use Rattle.volume.specs.Directory.{entryAt, described}
+use Rattle.files.specs.Files.{extent}
+use Rattle.luns.specs.declared.Lun.{Lun}
+use Rattle.luns.specs.declared.Place.the-variants.{Fresh, At}
+use Rattle.luns.specs.Luns.{freeLun, movedTo}
+use Rattle.luns.specs.Modes.{modeOf, writes}
+use Rattle.desk.specs.Desk.{State, lunAt}
+use Rattle.desk.specs.Answers.{Outcome}
+use Rattle.desk.specs.Calls.{step, Assign, Close, Rewind}
+use Rattle.desk.specs.declared.Report.the-variants.{Moved}
+use Rattle.desk.specs.declared.Answer.the-variants.{Done}
+use Rattle.promises.specs.Sectors.{Accepts}
+use Rattle.promises.specs.Contents.{OnlyLun}
+
+-- Assign: the LUN holds the caller, the file of that descriptor and the mode asked for. Its place is "Fresh, or with position-at-end and a
+-- writing mode At the last record or sector, n = 1 (Fresh if there is none)"
+pub record Seats (s : State) (o : Outcome) (caller lun : ℕ) (desc : List ℕ) (mode : ℕ) (end : Bool) (u : Lun) : Type 0 where
+  pub answered : o .answer ≡ Done (Moved 0)
+  pub image-kept : o .image ≡ s .image
+  pub only-lun : OnlyLun (s .desk) (o .desk) lun u
+  pub is-held : u .held ≡ true
+  pub its-user : u .user ≡ caller
+  pub its-file : described (entryAt (s .image) (u .slot)) ≡ desc
+  pub its-mode : u .mode ≡ modeOf mode
+  pub at-last : end ≡ true → writes (modeOf mode) ≡ true → 1 ≤ extent (s .image) (entryAt (s .image) (u .slot))
+      → u .place ≡ At (extent (s .image) (entryAt (s .image) (u .slot)) - 1) 1
+  pub fresh-else : (end ≡ false) ⊎ ((writes (modeOf mode) ≡ false) ⊎ (extent (s .image) (entryAt (s .image) (u .slot)) ≡ 0))
+      → u .place ≡ Fresh
+
+abbrev pub AcceptedAssign : Type 0
+AcceptedAssign =
+    (s : State) (caller lun : ℕ) (desc : List ℕ) (mode : ℕ) (end : Bool) → Accepts (Assign caller lun desc mode end) s
+    → (u : Lun) × Seats s (step (Assign caller lun desc mode end) s) caller lun desc mode end u
+
+-- Close frees the LUN, "Rewind gives Fresh"
+pub record Frees (s : State) (o : Outcome) (lun : ℕ) : Type 0 where
+  pub answered : o .answer ≡ Done (Moved 0)
+  pub image-kept : o .image ≡ s .image
+  pub only-lun : OnlyLun (s .desk) (o .desk) lun freeLun
+
+abbrev pub AcceptedClose : Type 0
+AcceptedClose = (s : State) (caller lun : ℕ) → Accepts (Close caller lun) s → Frees s (step (Close caller lun) s) lun
+
+pub record Rewinds (s : State) (o : Outcome) (lun : ℕ) : Type 0 where
+  pub answered : o .answer ≡ Done (Moved 0)
+  pub image-kept : o .image ≡ s .image
+  pub only-lun : OnlyLun (s .desk) (o .desk) lun (movedTo Fresh (lunAt (s .desk) lun))
+
+abbrev pub AcceptedRewind : Type 0
+AcceptedRewind = (s : State) (caller lun : ℕ) → Accepts (Rewind caller lun) s → Rewinds s (step (Rewind caller lun) s) lun
