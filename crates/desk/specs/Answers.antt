@@ -1,4 +1,4 @@
--- Answers: their numbers and lengths, and what a call leaves.
+-- Answers: their numbers and lengths, and what a call leaves. Defines RULES, Answers; The calls (refused or carried out).
 use mathlib.Core.Bool.{Bool, true, false}
 use mathlib.Core.List.{List}
 use Prim.Native.Nat.{ℕ}
@@ -10,12 +10,12 @@ use Rattle.desk.specs.declared.Answer.the-variants.{Done, Refused}
 use Rattle.desk.specs.declared.Desk.{Desk}
 use Rattle.desk.specs.Desk.{State}
 
--- "transfers answer the data bytes moved, other calls length 0"
+-- RULES, Answers: the data bytes that a transfer moved, or 0 for any other call
 abbrev pub movedBy : Report → ℕ
 movedBy (Moved n) = n
 movedBy (Checked s f) = 0
 
--- "Success is $00"; "Every other answer carries length 0"
+-- RULES, Answers: done has status $00; a refusal has its number, and length 0
 abbrev pub status : Answer → ℕ
 status (Done r) = 0x00
 status (Refused why) = code why
@@ -46,7 +46,8 @@ pub record Change : Type 0 where
   pub desk : Desk
   pub buffer : List ℕ
 
--- "The first that applies wins", and "changes neither image, desk nor buffer"; if none applies, the call is carried out
+-- RULES, The calls: the first refusal whose condition holds is answered, and image, desk and buffer keep every byte; if none holds, the
+-- call is carried out
 unfoldable pub judged : List Rule → State → List ℕ → Change → Outcome
 judged rs s buf c =
     ruled rs (λ why. outcome (Refused why) (s .image) (s .desk) buf) (outcome (Done (c .report)) (c .image) (c .desk) (c .buffer))

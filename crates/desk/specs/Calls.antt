@@ -1,5 +1,6 @@
--- The calls as values. Of each: its rules in the order of the status table, its change, the buffer that it was lent, the bytes that it was
--- sent, and what it may touch. `step` is what every public function states of itself.
+-- The calls as values. Defines RULES, The calls (with all of Format to Update); Orders of refusals. Of each call: its rules in its own order,
+-- its change, the buffer that it was lent, the bytes that it was sent, and what it may touch. `step` is what every public function states of
+-- itself.
 use mathlib.Core.Bool.{Bool, not, true}
 use mathlib.Core.List.{List, [], _∷_, _++_}
 use mathlib.Core.Path.{_≡_}
@@ -43,40 +44,40 @@ pub data Call : Type 0 where
   Read : (caller lun sel num : ℕ) (buffer : List ℕ) → Call
   Write Update : (caller lun sel num : ℕ) (bytes : List ℕ) → Call
 
--- All calls but format and check begin with $6F and $03; `fine` says whether caller and LUN are as the call wants them
+-- RULES, The calls: all but format and check begin with $6F and $03; `fine` says whether caller and LUN are as the call wants them
 unfoldable pub beginRules : State → Bool → List Rule
 beginRules s fine = NotSound if not (ready s) ∷ BadLun if not fine ∷ []
 
--- All transfers go on with $82: "a read without a reading mode, a write or update without a writing one; selector unknown; .."
+-- RULES, The calls: transfers go on with $82: a mode that does not read, or write; a selector that has no target
 unfoldable pub openRules : (Mode → Bool) → State → ℕ → ℕ → ℕ → List Rule
 openRules able s caller lun sel =
     beginRules s (mine (s .desk) caller lun)
     ++ (BadRequest if (not (able (lunAt (s .desk) lun .mode)) or placeless sel (lunAt (s .desk) lun .place)) ∷ [])
 
--- "Assign gives Fresh, or with position-at-end and a writing mode At the last record or sector, n = 1 (Fresh if there is none)"
+-- RULES, Places and selectors: assign makes the place Fresh, or, if the end is asked for and the mode writes, At the last record or sector
 unfoldable pub startOf : List ℕ → List ℕ → Mode → Bool → Place
 startOf img e m end = if end and writes m and leb 1 (extent img e) then At (extent img e - 1) 1 else Fresh
 
--- the LUN that an assignment of the file in a slot makes
+-- RULES, Assign: the LUN that an assignment of the file in a slot makes
 unfoldable pub seatOf : List ℕ → ℕ → ℕ → Mode → Bool → Lun
 seatOf img caller slot m end =
     record { held = true; user = caller; slot = slot; mode = m; place = startOf img (entryAt img slot) m end }
 
--- "caller lacks the right, or modes clash"
+-- RULES, Status numbers: $0B of assign
 unfoldable pub seatRules : Desk → ℕ → ℕ → Lun → List Rule
 seatRules d caller user u = NoRight if (writes (u .mode) and not (hasRight caller user) or not (all (agree u) (d .luns))) ∷ []
 
 unfoldable pub newLun : List ℕ → ℕ → List ℕ → ℕ → Bool → Lun
 newLun img caller desc mode end = seatOf img caller (slotOf img desc) (modeOf mode) end
 
--- "Assign: $6F, $03, $02, $64, $17, $0B"
+-- RULES, Orders of refusals: assign: $6F, $03, $02, $64, $17, $0B
 unfoldable pub assignRules : State → ℕ → ℕ → List ℕ → ℕ → Bool → List Rule
 assignRules s caller lun desc mode end =
     beginRules s (spare (s .desk) caller lun)
     ++ (UnknownType if ltb 7 mode
     ∷ (namedRules (s .image) desc ++ seatRules (s .desk) caller (userOf desc) (newLun (s .image) caller desc mode end)))
 
--- "Delete: $6F, $03, $64, $17, $0B, $0D"
+-- RULES, Orders of refusals: delete: $6F, $03, $64, $17, $0B, $0D
 unfoldable pub removeRules : Desk → ℕ → ℕ → ℕ → List Rule
 removeRules d caller user slot = NoRight if not (hasRight caller user) ∷ InUse if isHeld (d .luns) slot ∷ []
 
@@ -85,7 +86,13 @@ deleteRules s caller desc =
     beginRules s (leb caller lastUser)
     ++ (namedRules (s .image) desc ++ removeRules (s .desk) caller (userOf desc) (slotOf (s .image) desc))
 
--- "Format: $60 only. Check: never refuses. Close, rewind: $6F, $03"
+-- RULES, Orders of refusals: format: $60
+-- RULES, Orders of refusals: check: none
+-- RULES, Orders of refusals: allocate: $6F, $03, $64, $02, $60, $0B, $66, $67, $63
+-- RULES, Orders of refusals: close, rewind: $6F, $03
+-- RULES, Orders of refusals: read: $6F, $03, $82, $84 (contiguous), $C2, $84 (sequential)
+-- RULES, Orders of refusals: write: $6F, $03, $82, $84, $C2, $62, $63, $65
+-- RULES, Orders of refusals: update: $6F, $03, $82 (mode or selector), $82 (contiguous), $84, $C2, $61
 unfoldable pub rules : Call → State → List Rule
 rules (Format id n) s = formatRules (s .image) id n
 rules Check s = []
@@ -103,14 +110,14 @@ rules (Update caller lun sel num bs) s = openRules writes s caller lun sel ++ up
 unfoldable pub quietly : List ℕ → Desk → Change
 quietly img d = record { report = Moved 0; image = img; desk = d; buffer = [] }
 
--- "After an accepted transfer the place is At the first record or sector moved"
+-- RULES, Places and selectors: an accepted transfer leaves its LUN At its target
 unfoldable pub after : Desk → ℕ → Moving → Desk
 after d lun m = putLun d lun (movedTo (At (m .from) (m .count)) (lunAt d lun))
 
 unfoldable pub transferred : State → ℕ → Moving → Change
 transferred s lun m = record { report = Moved (m .bytes); image = m .image; desk = after (s .desk) lun m; buffer = m .buffer }
 
--- "sound or not, and the number of free sectors (0 if not sound)"
+-- RULES, Check: whether the volume is sound, and how many sectors are free; 0 if it is not sound
 unfoldable pub checked : State → Change
 checked s = record {
   report = Checked (sound (s .image)) (if sound (s .image) then free (s .image) else 0);
@@ -119,6 +126,8 @@ checked s = record {
   buffer = [];
 }
 
+-- RULES, The calls: what each call does, under Format to Update
+-- RULES, Close and rewind: close frees the LUN; rewind makes its place Fresh
 unfoldable pub done : Call → State → Change
 done (Format id n) s = quietly (formatted id n (sectors (s .image))) emptyDesk
 done Check s = checked s
@@ -156,8 +165,8 @@ sent (Read caller lun sel num buf) = []
 sent (Write caller lun sel num bs) = bs
 sent (Update caller lun sel num bs) = bs
 
--- What a call may touch of the files that are there: nothing; one file; of one file n records or sectors from i on; where files lie,
--- and nothing that is read from them; everything
+-- RULES, The calls: what a call may touch of the files that are there: nothing; one file; of one file n records or sectors from i on;
+-- where files lie, and nothing that is read from them; everything
 pub data Touch : Type 0 where
   Nothing : Touch
   OneFile : (slot : ℕ) → Touch

@@ -1,4 +1,4 @@
--- The desk: sixteen LUNs, and what a call may do with one.
+-- The desk: sixteen LUNs, and what a call may do with one. Defines RULES, The desk; Logical units (whose a LUN is).
 use mathlib.Core.List.{List}
 use mathlib.Core.Bool.{Bool, not}
 use Prim.Native.Nat.{ℕ}
@@ -29,20 +29,20 @@ lunAt d k = getD (d .luns) k freeLun
 unfoldable pub putLun : Desk → ℕ → Lun → Desk
 putLun d k u = record { luns = set (d .luns) k u }
 
--- sound, and the desk fits
+-- RULES, Status numbers: $6F, unless the volume is sound and the desk fits it
 unfoldable pub ready : State → Bool
 ready s = sound (s .image) and fits (s .image) (s .desk .luns)
 
--- "caller above 65,533; LUN above 15, free when it must be held, .. or another user's"
+-- RULES, Logical units: a LUN that is the caller's; RULES, Status numbers: $03 if it is not, or if the caller is out of range
 unfoldable pub mine : Desk → ℕ → ℕ → Bool
 mine d caller lun =
     leb caller lastUser and ltb lun lunCount and lunAt d lun .held and eqb (lunAt d lun .user) caller
 
--- ".. held when it must be free"
+-- RULES, Status numbers: $03 of assign, unless caller and LUN are in range and the LUN is free
 unfoldable pub spare : Desk → ℕ → ℕ → Bool
 spare d caller lun = leb caller lastUser and ltb lun lunCount and not (lunAt d lun .held)
 
--- the entry of the file that a LUN holds, and the record or sector that a selector names there
+-- RULES, The calls: the file in the LUN's slot, as its entry; RULES, Places and selectors: the target
 unfoldable pub fileOf : State → ℕ → List ℕ
 fileOf s lun = entryAt (s .image) (lunAt (s .desk) lun .slot)
 

@@ -1,4 +1,4 @@
--- What the calls make of an image. The volume is looked at as the call finds it.
+-- What the calls make of an image, which is looked at as the call finds it. Defines RULES, Allocate; Delete; Write; Update (what they do).
 use mathlib.Core.List.{List, _++_}
 use Prim.Native.Nat.{ℕ, _*_, _-_, _+_}
 use lib.Dec.{eqb}
@@ -14,8 +14,8 @@ use Rattle.ownership.specs.Owners.{owned, logical}
 use Rattle.ownership.specs.Blocks.{block, total, pairs, extendedBy, blockOf}
 use Rattle.files.specs.Files.{stream, records}
 
--- Allocate: an entry of kind k in slot at, n sectors from s on marked and zero-filled, where "sequential: the lowest free sector as
--- FAB, with no data" takes one
+-- RULES, Allocate: an entry of kind k in slot at, and n sectors from s on marked and zeroed; a sequential file takes one, for its access
+-- block
 unfoldable pub taken : ℕ → ℕ → ℕ
 taken k n = if eqb k 0 then n else 1
 
@@ -25,12 +25,12 @@ allocated at d k n l s img =
     (putSat img (withBits 1 (sat img) (range s (taken k n)))
     (put (256 * s) (blanks (256 * taken k n)) img))
 
--- "Delete zeroes the entry and frees the file's sectors, its FAB too; their bytes stay."
+-- RULES, Delete: the entry is 32 zeros, and the SAT's bits of all sectors that the file owns are cleared
 unfoldable pub deleted : ℕ → List ℕ → List ℕ
 deleted at img =
     putEntry img at (blanks 32) (putSat img (withBits 0 (sat img) (owned img (entryAt img at))) img)
 
--- Append: the stream with the record after it, the sectors that it needs beyond those that are there, and the segments with them
+-- RULES, Write: appending: the stream with the record after it, the sectors that it needs beyond those that are there, and the segments with them
 unfoldable pub longer : List ℕ → List ℕ → List ℕ → List ℕ
 longer img e r = stream img e ++ encoded (recordLength e) r
 
@@ -49,11 +49,11 @@ appended e r img =
     (putSat img (withBits 1 (sat img) (newSectors img e r))
     (laid (logical img e ++ newSectors img e r) (longer img e r) img))
 
--- "Update, sequential: replaces a record": the stream of the records with r for number i
+-- RULES, Update: the stream of the records with r for number i
 unfoldable pub updated : List ℕ → ℕ → List ℕ → List ℕ → List ℕ
 updated e i r img = laid (logical img e) (streamOf (recordLength e) (set (records img e) i r)) img
 
--- n sectors of a contiguous file from number i on, read; and written, "all or nothing"
+-- RULES, Read: n sectors of a contiguous file from number i on; RULES, Write: the data put over them
 unfoldable pub sectorsAt : List ℕ → ℕ → ℕ → List ℕ → List ℕ
 sectorsAt e i n img = part (256 * (start e + i)) (256 * n) img
 

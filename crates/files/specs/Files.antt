@@ -1,4 +1,4 @@
--- A file's stream and records, the rest of soundness, and `sound` as a whole.
+-- A file's stream and records, the rest of soundness, and `sound` as a whole. Defines RULES, Streams and records; Soundness.
 use mathlib.Core.List.{List, []}
 use mathlib.Core.Bool.{Bool}
 use Prim.Native.Nat.{ℕ}
@@ -12,7 +12,7 @@ use Rattle.records.specs.Records.{recordsOf, wholeRecords}
 use Rattle.ownership.specs.Owners.{logical, sound5}
 use Rattle.ownership.specs.Blocks.{block, streamLength, sound3}
 
--- a sequential file's bytes: its stream of E bytes, then the tail of its last sector
+-- RULES, Streams and records: a sequential file's bytes, its stream of E bytes, then the tail of its last sector
 unfoldable pub stored : List ℕ → List ℕ → List ℕ
 stored img e = laidOut img (logical img e)
 
@@ -29,22 +29,22 @@ records img e = recordsOf (recordLength e) (stream img e)
 unfoldable pub recordAt : List ℕ → List ℕ → ℕ → List ℕ
 recordAt img e i = getD (records img e) i []
 
--- how far a file goes: in sectors if contiguous, in records if sequential
+-- RULES, Streams and records: the extent, in sectors if contiguous, in records if sequential
 unfoldable pub extent : List ℕ → List ℕ → ℕ
 extent img e = if contiguous e then size e else length (records img e)
 
--- Sound, 3: "Stream bytes from E on are zero."
+-- RULES, Soundness: point 3, the tail is all zero
 unfoldable pub tailSound : List ℕ → List ℕ → Bool
 tailSound img e = unused e or contiguous e or zeros (tail img e)
 
--- Sound, 4: "The first E stream bytes are whole records."
+-- RULES, Soundness: point 4, the stream is whole records
 unfoldable pub recordsSound : List ℕ → List ℕ → Bool
 recordsSound img e = unused e or contiguous e or wholeRecords (recordLength e) (stream img e)
 
 unfoldable pub sound4 : List ℕ → Bool
 sound4 img = all (λ e. tailSound img e and recordsSound img e) (entries img)
 
--- "A volume is sound when all of these hold"
+-- RULES, Soundness: all five points
 unfoldable pub sound : List ℕ → Bool
 sound img = sound1 img and sound2 img and sound3 img and sound4 img and sound5 img
 

@@ -1,10 +1,10 @@
--- Who may do what with a file.
+-- Who may do what with a file. Defines RULES, Rights.
 use mathlib.Core.Bool.{Bool}
 use Prim.Native.Nat.{ℕ}
 use lib.Dec.{eqb}
 use Rattle.lists.specs.Lists.{_or_}
 
--- "only the owner or user 0 writes, allocates or deletes"
+-- RULES, Rights: the owner of a file has the right to it, and so has user 0
 unfoldable pub hasRight : ℕ → ℕ → Bool
 hasRight caller user = eqb caller 0 or eqb caller user
 

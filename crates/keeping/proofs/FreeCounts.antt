@@ -15,7 +15,7 @@ use Rattle.lists.proofs.Puts.{length-blanks}
 use Rattle.lists.proofs.Keeps.{range-out}
 use Rattle.lists.proofs.RangeParts.{distinct-range}
 use Rattle.lists.proofs.Ranges.{length-range, range-below}
-use Rattle.keeping.proofs.KeptCount.{kept-same, outside}
+use Rattle.lists.proofs.KeptCount.{kept-same, outside}
 use Rattle.volume.specs.Names.{volumeId}
 use Rattle.volume.specs.Volume.{dirs, sat, systemOf, inRange, layoutOf}
 use Rattle.volume.specs.Directory.{entryAt, unused, contiguous, size, recordLength}

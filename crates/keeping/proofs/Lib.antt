@@ -10,4 +10,3 @@ pub mod OverwriteKeeps
 pub mod RecordsSame
 pub mod SlotFound
 pub mod SlotWritten
-pub mod KeptCount

@@ -5,6 +5,7 @@ pub mod FirstFound
 pub mod IndexFound
 pub mod JoinedLists
 pub mod Keeps
+pub mod KeptCount
 pub mod LentParts
 pub mod Lists
 pub mod Pieces

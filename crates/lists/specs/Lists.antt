@@ -1,4 +1,4 @@
--- Plain walks over lists: both, either, pieces, ranges, searches and tests.
+-- Plain walks over lists: both, either, pieces, ranges, searches and tests. Defines no heading of RULES; the rules are said with them.
 use mathlib.Core.Bool.{Bool, true, false, not}
 use mathlib.Core.List.{List, [], _∷_, _++_}
 use Prim.Native.Nat.{ℕ, zero, suc, _+_}

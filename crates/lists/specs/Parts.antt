@@ -1,4 +1,4 @@
--- Bytes, words, sectors and other parts of an image.
+-- Bytes, words, sectors and other parts of an image. Defines RULES, Words and numbers (words); The volume.
 use mathlib.Core.List.{List, [], _∷_, _++_}
 use mathlib.Core.Bool.{Bool}
 use Prim.Native.Nat.{ℕ, _+_, _*_, _/_, _%_, _-_}
@@ -6,7 +6,7 @@ use lib.ListN.{getD, take, drop, length, replicate}
 use lib.Dec.{eqb}
 use Rattle.lists.specs.Lists.{all}
 
--- the byte at i; "words are big-endian"; the two bytes of a word
+-- the byte at i; RULES, Words and numbers: a word is two bytes, the higher one first; the two bytes of a word
 abbrev pub byte : List ℕ → ℕ → ℕ
 byte b i = getD b i 0
 
@@ -26,7 +26,7 @@ put i b img = take i img ++ (b ++ drop (i + length b) img)
 unfoldable pub over : List ℕ → List ℕ → List ℕ
 over b old = b ++ drop (length b) old
 
--- "the 256-byte part of the image that starts at 256 times the sector number", read and written
+-- RULES, The volume: sector s is the 256 bytes from byte 256 times s on; read, and written
 unfoldable pub sector : ℕ → List ℕ → List ℕ
 sector s img = part (256 * s) 256 img
 
@@ -40,14 +40,14 @@ blanks n = replicate n 0
 unfoldable pub filled : ℕ → List ℕ → List ℕ
 filled n b = b ++ blanks (n - length b)
 
--- n bytes in sectors, rounded up
+-- RULES, Words and numbers: n bytes in sectors, rounded up
 unfoldable pub inSectors : ℕ → ℕ
 inSectors n = (n + 255) / 256
 
 abbrev pub zeros : List ℕ → Bool
 zeros = all (λ x. eqb x 0)
 
--- "T sectors": how many whole ones an image has
+-- RULES, The volume: T is the image's length / 256
 unfoldable pub sectors : List ℕ → ℕ
 sectors img = length img / 256
 

@@ -1,4 +1,4 @@
--- Logical units: what each holds, the places that selectors name, and whether sixteen of them fit a volume.
+-- Logical units, the places that selectors name, and whether sixteen fit a volume. Defines RULES, Logical units; Places and selectors; Fitting.
 use mathlib.Core.Bool.{false, Bool, not, true}
 use mathlib.Core.List.{List, [], _∷_}
 use Prim.Native.Nat.{ℕ, _+_, _-_}
@@ -15,7 +15,7 @@ use Rattle.luns.specs.declared.Lun.{Lun}
 use Rattle.luns.specs.declared.Place.{Place}
 use Rattle.luns.specs.Modes.{compatible, writes}
 
--- "Each LUN is free or holds a user, a directory slot (entries counted from 0), a mode and a place"
+-- RULES, Logical units: a free LUN, as close and format leave it
 unfoldable pub freeLun : Lun
 freeLun = record { held = false; user = 0; slot = 0; mode = Pr; place = Fresh }
 
@@ -23,12 +23,12 @@ freeLun = record { held = false; user = 0; slot = 0; mode = Pr; place = Fresh }
 unfoldable pub movedTo : Place → Lun → Lun
 movedTo p u = record { held = u .held; user = u .user; slot = u .slot; mode = u .mode; place = p }
 
--- "Next means 0 if Fresh, else i+n. Current means i, Prior i-1, Random the given number; selectors are 0 to 3 in that order"
+-- RULES, Places and selectors: the target of Next, Current, Prior and Random, 0 to 3 in that order
 unfoldable pub target : ℕ → ℕ → Place → ℕ
 target sel num Fresh = if eqb sel 3 then num else 0
 target sel num (At i n) = if eqb sel 0 then i + n else if eqb sel 1 then i else if eqb sel 2 then i - 1 else num
 
--- "selector unknown; Current when Fresh; Prior when Fresh or i = 0"
+-- RULES, Places and selectors: no target: a selector above 3, Current when Fresh, Prior when Fresh or At 0
 unfoldable pub placeless : ℕ → Place → Bool
 placeless sel Fresh = ltb 3 sel or eqb sel 1 or eqb sel 2
 placeless sel (At i n) = ltb 3 sel or eqb sel 2 and eqb i 0
@@ -41,13 +41,13 @@ unfoldable pub allAgree : List Lun → Bool
 allAgree [] = true
 allAgree (u ∷ us) = all (agree u) us and allAgree us
 
--- "each place exists: i below the record count with n = 1, or, contiguous, 1 <= n <= 16 and i+n at most the sectors"
+-- RULES, Fitting: the place exists
 unfoldable pub placeExists : List ℕ → List ℕ → Place → Bool
 placeExists img e Fresh = true
 placeExists img e (At i n) =
     if contiguous e then leb 1 n and leb n mostMoved and leb (i + n) (extent img e) else eqb n 1 and ltb i (extent img e)
 
--- "each slot is in use, users are in range, .. each writer is the file's owner or user 0"
+-- RULES, Fitting: of a held LUN, the slot is in use, the user is in range and has the right if the mode writes, the place exists
 unfoldable pub lunFits : List ℕ → Lun → Bool
 lunFits img u =
     not (u .held)
@@ -55,11 +55,11 @@ lunFits img u =
     and (not (writes (u .mode)) or hasRight (u .user) (owner (entryAt img (u .slot))))
     and placeExists img (entryAt img (u .slot)) (u .place)
 
--- "A desk fits a volume when .. assignments of one file are compatible"
+-- RULES, Fitting: sixteen LUNs, each as it has to be, and any two of one slot with compatible modes
 unfoldable pub fits : List ℕ → List Lun → Bool
 fits img us = eqb (length us) lunCount and all (lunFits img) us and allAgree us
 
--- "a file that some LUN holds"
+-- RULES, Status numbers: $0D, some held LUN has the file's slot
 unfoldable pub holdsSlot : ℕ → Lun → Bool
 holdsSlot k u = u .held and eqb (u .slot) k
 

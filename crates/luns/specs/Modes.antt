@@ -1,4 +1,4 @@
--- Modes: what each reads, writes and excludes, and which two stand beside each other.
+-- Modes: what each reads, writes and excludes, and which two stand beside each other. Defines RULES, Modes.
 use mathlib.Core.Bool.{Bool, true, false, not}
 use Prim.Native.Nat.{ℕ}
 use lib.Dec.{eqb}
@@ -6,13 +6,13 @@ use Rattle.lists.specs.Lists.{if_then_else_, _and_, _or_}
 use Rattle.luns.specs.declared.Mode.{Mode}
 use Rattle.luns.specs.declared.Mode.the-variants.{Pr, Er, Pw, Ew, Prpw, Prew, Erpw, Erew}
 
--- "Modes 0 to 7 (house numbers): PR, ER, PW, EW, PRPW, PREW, ERPW, EREW"; a number above 7 is refused before it is looked up
+-- RULES, Modes: the numbers 0 to 7; a number above 7 is refused before it is looked up
 unfoldable pub modeOf : ℕ → Mode
 modeOf k =
     if eqb k 0 then Pr else if eqb k 1 then Er else if eqb k 2 then Pw else if eqb k 3 then Ew
     else if eqb k 4 then Prpw else if eqb k 5 then Prew else if eqb k 6 then Erpw else Erew
 
--- "P is public, E exclusive", of reading (R) and of writing (W)
+-- RULES, Modes: what each reads and writes, and what it excludes
 abbrev pub reads : Mode → Bool
 reads Pr = true
 reads Er = true
@@ -53,7 +53,7 @@ excludesWriting Prew = true
 excludesWriting Erpw = false
 excludesWriting Erew = true
 
--- "compatible unless one excludes reading and the other reads, or one excludes writing and the other writes"
+-- RULES, Modes: one mode shuts out another; two are compatible if neither shuts out the other
 unfoldable pub shutsOut : Mode → Mode → Bool
 shutsOut a b = excludesReading a and reads b or excludesWriting a and writes b
 

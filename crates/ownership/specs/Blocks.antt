@@ -1,4 +1,4 @@
--- "File access block (FAB), one sector for each sequential file", and point 3 of soundness but for the stream's tail.
+-- Access blocks, and point 3 of soundness but for the stream's tail. Defines RULES, Access blocks; Soundness (point 3).
 use mathlib.Core.List.{List, [], _∷_, _++_, map}
 use mathlib.Core.Bool.{Bool, true}
 use Prim.Native.Nat.{ℕ, _+_, _*_, _/_, _%_}
@@ -12,7 +12,7 @@ use Rattle.volume.specs.Directory.{start, unused, contiguous, size, entries}
 unfoldable pub block : List ℕ → List ℕ → List ℕ
 block img e = sector (start e) img
 
--- "word 0 segments n; word 2 total data sectors; bytes 4-7 stream length E; then 62 pairs of words, start and length"
+-- RULES, Access blocks: word 0 is n, word 2 the total of data sectors, bytes 4-7 are E; the pairs stand from byte 8 on
 abbrev pub segments : List ℕ → ℕ
 segments f = word f 0
 
@@ -38,7 +38,7 @@ segment p = range (segStart p) (segLength p)
 unfoldable pub sectorsOf : List ℕ → List ℕ
 sectorsOf f = flat segment (pairs f)
 
--- "one that follows the last segment directly lengthens it, else it starts a new segment"
+-- RULES, Access blocks: a sector that joins a file makes its last segment longer if it comes right after it; else it starts a new one
 unfoldable pub extended : List (List ℕ) → ℕ → List (List ℕ)
 extended [] s = (bytes2 s ++ bytes2 1) ∷ []
 extended (p ∷ []) s =
@@ -51,23 +51,23 @@ unfoldable pub extendedBy : List (List ℕ) → List ℕ → List (List ℕ)
 extendedBy ps [] = ps
 extendedBy ps (s ∷ ss) = extendedBy (extended ps s) ss
 
--- an access block of these pairs, total and stream length, "unused pairs zero"
+-- an access block of these pairs, total and stream length; RULES, Access blocks: every byte after the pairs is zero
 unfoldable pub blockOf : List (List ℕ) → ℕ → ℕ → List ℕ
 blockOf ps n e =
     filled 256
     (bytes2 (length ps) ++ (bytes2 n ++ (bytes2 (e / 65536) ++ (bytes2 (e % 65536) ++ flat (λ p. p) ps))))
 
--- "each segment lies inside the volume and has length 1 or more"
+-- RULES, Soundness: point 3, a segment of 1 or more sectors that ends at or before T
 unfoldable pub segmentSound : ℕ → List ℕ → Bool
 segmentSound t p = leb 1 (segLength p) and leb (segStart p + segLength p) t
 
--- "n is at most 62 and unused pairs are zero; .. the lengths sum to the total, and the total is E/256 rounded up."
+-- RULES, Soundness: point 3, at most 62 segments, zeros after the n pairs, the segments, and their total, which is E in sectors
 unfoldable pub blockSound : ℕ → List ℕ → Bool
 blockSound t f =
     leb (segments f) mostSegments and zeros (drop (8 + 4 * segments f) f) and all (segmentSound t) (pairs f)
     and eqb (sum (map (λ p. segLength p) (pairs f))) (total f) and eqb (total f) (inSectors (streamLength f))
 
--- "Every FAB and contiguous file lies inside the volume."
+-- RULES, Soundness: point 3, of a contiguous file, and of a sequential one with its access block
 unfoldable pub placed : List ℕ → List ℕ → Bool
 placed img e =
     if unused e
@@ -76,7 +76,7 @@ placed img e =
     then leb (start e + size e) (sectors img)
     else ltb (start e) (sectors img) and blockSound (sectors img) (block img e))
 
--- Sound, 3, but for "stream bytes from E on are zero"
+-- RULES, Soundness: point 3, but for the tail
 unfoldable pub sound3 : List ℕ → Bool
 sound3 img = all (placed img) (entries img)
 

@@ -30,7 +30,7 @@ use Rattle.desk.specs.Answers.{Outcome}
 use Rattle.desk.specs.Calls.{Call, Format, Check, Allocate, Assign, Close, Rewind, Delete, Read, Write, Update, quietly, transferred, checked, done}
 use Rattle.promises.specs.Sectors.{Bytes}
 use Rattle.promises.specs.Contents.{slotHeld, NoFormat}
-use Rattle.promises.specs.Counts.{sectorsHeld, growth, takes, gives, FreeCount}
+use Rattle.promises.specs.Counts.{sectorsHeld, growth, trade, FreeCount}
 use Rattle.promises.proofs.Passing.{Accepted, accepted}
 use Rattle.promises.proofs.Told.{AllocateTold, allocate-told, DeleteTold, delete-told, WriteTold, write-told, UpdateTold, update-told}
 use Rattle.promises.proofs.Held.{entryOf, ready-sound}
@@ -124,8 +124,8 @@ free-update caller lun sel num bs s b T =
     let R = rewrites caller lun sel num bs s b T in
     free-kept (s .image) _ (update-sat caller lun sel num bs s b T) (sectors-kept (s .image) _ _ _ _ (R .changed))
 
-counted : (c : Call) (s : State) → Bytes (s .image) → NoFormat c → Accepted c s → free (done c s .image) + takes c s ≡ free (s .image) + gives c s
-unfolding done quietly checked transferred takes gives fileOf reading writing updating moving taken
+counted : (c : Call) (s : State) → Bytes (s .image) → NoFormat c → Accepted c s → free (done c s .image) + trade c s .takes ≡ free (s .image) + trade c s .gives
+unfolding done quietly checked transferred trade fileOf reading writing updating moving taken
 counted (Format id n) s b h a = absurd (h id n refl)
 counted Check s b h a = refl
 counted (Allocate caller desc k n l) s b h a = free-allocate caller desc k n l s (allocate-told caller desc k n l s a) ∙ omega arith
@@ -140,4 +140,4 @@ counted (Update caller lun sel num bs) s b h a = omega (arith, free-update calle
 pub free-count : FreeCount
 free-count s b c n h =
     let a = accepted c s h in
-    ap (λ (o : Outcome). free (o .image) + takes c s) (a .is) ∙ counted c s b n a
+    ap (λ (o : Outcome). free (o .image) + trade c s .takes) (a .is) ∙ counted c s b n a

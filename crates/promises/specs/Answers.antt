@@ -16,7 +16,7 @@ use Rattle.desk.specs.declared.Answer.{Answer}
 use Rattle.desk.specs.declared.Answer.the-variants.{Refused}
 use Rattle.desk.specs.declared.Desk.{Desk}
 
--- the numbers of the status table
+-- RULES, Status numbers
 unfoldable pub statusTable : List ℕ
 statusTable =
     0x00 ∷ 0x02 ∷ 0x03 ∷ 0x0B ∷ 0x0D ∷ 0x17 ∷ 0x82 ∷ 0x84 ∷ 0xC2 ∷ 0x60 ∷ 0x61 ∷ 0x62 ∷ 0x63 ∷ 0x64 ∷ 0x65 ∷ 0x66 ∷ 0x67 ∷ 0x6F ∷ []
@@ -46,12 +46,12 @@ pub record First (rs : List Rule) (k : ℕ) (r : Refusal) : Type 0 where
 abbrev pub RefusedExactly : Type 0
 RefusedExactly = (c : Call) (s : State) (r : Refusal) → (step c s .answer ≡ Refused r) ↔ ((k : ℕ) × First (rules c s) k r)
 
--- $6F: a volume that is not sound, or a desk that does not fit it, is refused by every call but format and check
+-- RULES, Status numbers: $6F: a volume that is not sound, or a desk that does not fit it, is refused by every call but format and check
 abbrev pub UnreadyRefused : Type 0
 UnreadyRefused =
     (c : Call) (s : State) → ((id : List ℕ) (n : ℕ) → c ≢ Format id n) → c ≢ Check → ready s ≡ false → step c s .answer ≡ Refused NotSound
 
--- "That at most one outcome satisfies each statement is itself proved": `Ensured` is what the ten public functions ensure
+-- At most one outcome satisfies each call's statement: `Ensured` is what the ten public functions ensure
 pub record SameOutcome (a a′ : Answer) (img img′ : List ℕ) (d d′ : Desk) (buf buf′ : List ℕ) : Type 0 where
   pub answers : a ≡ a′
   pub images : img ≡ img′

@@ -1,4 +1,4 @@
--- "What a reader may conclude from each statement": hollow programs that the statements shut out, and check's count.
+-- Hollow programs that the statements shut out, and check's count. The steps are those of RULES, Worked example.
 use mathlib.Core.Path.{_≡_}
 use mathlib.Core.Logic.{_↔_}
 use mathlib.Core.Bool.{false, true}
@@ -29,18 +29,18 @@ RefusesExactly p = (c : Call) (s : State) (r : Refusal) → (p c s .answer ≡ R
 abbrev pub Meets : Program → Type 0
 Meets p = (c : Call) (s : State) → p c s ≡ step c s
 
--- "One that refuses everything, and one that always answers $00: demand 2 shuts both out, by each refusal's exact condition."
+-- A program that refuses everything, and one that answers $00 to everything: the exact condition of each refusal shuts both out
 abbrev pub NotAllRefused : Type 0
 NotAllRefused = (p : Program) → RefusesExactly p → ((c : Call) (s : State) → accepts (p c s .answer) ≡ false) → ⊥
 
 abbrev pub NotAllDone : Type 0
 NotAllDone = (p : Program) → RefusesExactly p → ((c : Call) (s : State) → status (p c s .answer) ≡ 0x00) → ⊥
 
--- "One that changes nothing satisfies demand 3 and falls to demand 2 at step 2."
+-- One that changes no image keeps demand 3; it falls to demand 2 at step 2
 abbrev pub NotUnchanged : Type 0
 NotUnchanged = (p : Program) → Meets p → ((c : Call) (s : State) → p c s .image ≡ s .image) → ⊥
 
--- "One that appends properly once and later only moves E falls to demand 2 at step 6": E is bytes 4 to 7 of the access block
+-- One that appends a file's first record properly, and after that only moves E (bytes 4-7 of the access block), falls to demand 2 at step 6
 pub record OnlyMovesE (img e img′ : List ℕ) : Type 0 where
   pub newE : List ℕ
   pub four : length newE ≡ 4
@@ -53,7 +53,7 @@ NotOnlyE =
     → contiguous (fileOf s lun) ≡ false → 1 ≤ extent (s .image) (fileOf s lun)
     → OnlyMovesE (s .image) (fileOf s lun) (p (Write caller lun sel num bs) s .image)) → ⊥
 
--- "An invented free count falls to check's definition over the SAT."
+-- An invented free count: check's is the SAT's
 abbrev pub CheckCounts : Type 0
 CheckCounts =
     (s : State) → step Check s

@@ -43,11 +43,11 @@ pub record OnlyLun (d d′ : Desk) (lun : ℕ) (u : Lun) : Type 0 where
   pub this-lun : lunAt d′ lun ≡ u
   pub other-luns : (j : ℕ) → j ≢ lun → lunAt d′ j ≡ lunAt d j
 
--- "After an accepted transfer the place is At the first record or sector moved": the LUN alone moves, to n units from i on
+-- RULES, Places and selectors: an accepted transfer leaves its LUN, and no other, At its target i with n units moved
 abbrev pub Moves : State → Outcome → ℕ → ℕ → ℕ → Type 0
 Moves s o lun i n = OnlyLun (s .desk) (o .desk) lun (movedTo (At i n) (lunAt (s .desk) lun))
 
--- Write: "appends only", so that the file's records are the old ones and the new one; or it replaces exactly those sectors
+-- RULES, Write: the file's records are the old ones and the new one; or exactly those sectors have the data
 pub record Wrote (s : State) (o : Outcome) (lun i : ℕ) (bs : List ℕ) : Type 0 where
   pub answered : o .answer ≡ Done (Moved (length bs))
   pub entry-same : entryAt (o .image) (slotHeld s lun) ≡ fileOf s lun
@@ -66,7 +66,7 @@ AcceptedWrite =
     (s : State) (caller lun sel num : ℕ) (bs : List ℕ) → Accepts (Write caller lun sel num bs) s
     → Wrote s (step (Write caller lun sel num bs) s) lun (aimed s lun sel num) bs
 
--- Update: "replaces a record by one of the same length", and no other record
+-- RULES, Update: the record, which is as long, and no other
 pub record Updated (s : State) (o : Outcome) (lun i : ℕ) (bs : List ℕ) : Type 0 where
   pub answered : o .answer ≡ Done (Moved (length bs))
   pub entry-same : entryAt (o .image) (slotHeld s lun) ≡ fileOf s lun
@@ -81,7 +81,7 @@ AcceptedUpdate =
     (s : State) → Bytes (s .image) → (caller lun sel num : ℕ) (bs : List ℕ) → Accepts (Update caller lun sel num bs) s
     → Updated s (step (Update caller lun sel num bs) s) lun (aimed s lun sel num) bs
 
--- Read: "as many sectors as the buffer holds, or up to the end", or "one record's data. Buffer bytes after it stay."
+-- RULES, Read: as many sectors as the buffer has room for, or fewer if the end comes first; or the record's data. The rest of the buffer stays
 abbrev pub least : ℕ → ℕ → ℕ
 least m n = if leb m n then m else n
 
@@ -109,8 +109,7 @@ pub record SameFile (img img′ : List ℕ) (k : ℕ) : Type 0 where
   pub bytes-same : stored img′ (entryAt img k) ≡ stored img (entryAt img k)
   pub records-same : contiguous (entryAt img k) ≡ false → records img′ (entryAt img k) ≡ records img (entryAt img k)
 
--- "every other call leaves every file's contents, but for the deleted one and for format": of each call, the files that it does not
--- touch
+-- RULES, The calls: a call leaves every file that it does not touch as it was
 abbrev pub OtherFilesKept : Type 0
 OtherFilesKept =
     (s : State) → Bytes (s .image) → (c : Call) (k : ℕ) → File (s .image) k → changes (touch c s) k ≡ false

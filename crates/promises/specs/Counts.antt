@@ -25,32 +25,28 @@ unfoldable pub growth : List ℕ → List ℕ → ℕ → ℕ
 growth img e n =
     inSectors (streamLength (block img e) + (if eqb (recordLength e) 0 then 2 + n + n % 2 else n)) - total (block img e)
 
--- the sectors that an accepted call takes, and those that it frees. (Format: `Formats`)
-unfoldable pub takes : Call → State → ℕ
-takes (Format id n) s = 0
-takes Check s = 0
-takes (Allocate caller desc k n l) s = if eqb k 0 then n else 1
-takes (Assign caller lun desc mode end) s = 0
-takes (Close caller lun) s = 0
-takes (Rewind caller lun) s = 0
-takes (Delete caller desc) s = 0
-takes (Read caller lun sel num buf) s = 0
-takes (Write caller lun sel num bs) s = if contiguous (fileOf s lun) then 0 else growth (s .image) (fileOf s lun) (length bs)
-takes (Update caller lun sel num bs) s = 0
+-- the sectors that an accepted call takes, and those that it gives back. (Format: `Formats`)
+pub record Trade : Type 0 where
+  pub takes : ℕ
+  pub gives : ℕ
 
-unfoldable pub gives : Call → State → ℕ
-gives (Format id n) s = 0
-gives Check s = 0
-gives (Allocate caller desc k n l) s = 0
-gives (Assign caller lun desc mode end) s = 0
-gives (Close caller lun) s = 0
-gives (Rewind caller lun) s = 0
-gives (Delete caller desc) s = sectorsHeld (s .image) (entryAt (s .image) (slotOf (s .image) desc))
-gives (Read caller lun sel num buf) s = 0
-gives (Write caller lun sel num bs) s = 0
-gives (Update caller lun sel num bs) s = 0
+abbrev pub trading : ℕ → ℕ → Trade
+trading t g = record { takes = t; gives = g }
+
+unfoldable pub trade : Call → State → Trade
+trade (Format id n) s = trading 0 0
+trade Check s = trading 0 0
+trade (Allocate caller desc k n l) s = trading (if eqb k 0 then n else 1) 0
+trade (Assign caller lun desc mode end) s = trading 0 0
+trade (Close caller lun) s = trading 0 0
+trade (Rewind caller lun) s = trading 0 0
+trade (Delete caller desc) s = trading 0 (sectorsHeld (s .image) (entryAt (s .image) (slotOf (s .image) desc)))
+trade (Read caller lun sel num buf) s = trading 0 0
+trade (Write caller lun sel num bs) s =
+    trading (if contiguous (fileOf s lun) then 0 else growth (s .image) (fileOf s lun) (length bs)) 0
+trade (Update caller lun sel num bs) s = trading 0 0
 
 abbrev pub FreeCount : Type 0
 FreeCount =
     (s : State) → Bytes (s .image) → (c : Call) → NoFormat c → Accepts c s
-    → free (step c s .image) + takes c s ≡ free (s .image) + gives c s
+    → free (step c s .image) + trade c s .takes ≡ free (s .image) + trade c s .gives

@@ -18,7 +18,7 @@ pub record Demands : Type 0 where
   -- "A refusal hands back its number and length 0, and image, desk and buffer keep every byte."
   pub refusal-keeps : RefusalKeeps
   -- Demand 2: "Formatting, allocating, opening, reading, writing, updating and deleting do what the manual says as document 01 narrows
-  -- it": what an accepted call of each kind does
+  -- it" (RULES, The calls): what an accepted call of each kind does
   pub accepted-format : AcceptedFormat
   pub accepted-allocate : AcceptedAllocate
   pub accepted-assign : AcceptedAssign
@@ -54,19 +54,18 @@ pub record Demands : Type 0 where
   pub one-stream-each : OneStreamEach
   -- "A write or update leaves every other file's bytes as they were."
   pub others-kept : OthersKept
-  -- Document 01, "What a reader may conclude from each statement": "Every public call's statement settles answer, image, desk and buffer
-  -- in all cases, refused ones too"; "That at most one outcome satisfies each statement is itself proved"
+  -- Each public call's statement settles answer, image, desk and buffer in all cases: at most one outcome satisfies it
   pub one-outcome : OneOutcome
-  -- "One that refuses everything, and one that always answers $00: demand 2 shuts both out, by each refusal's exact condition."
+  -- A program that refuses everything is shut out, and so is one that answers $00 to everything,
   pub not-all-refused : NotAllRefused
   pub not-all-done : NotAllDone
-  -- "One that changes nothing satisfies demand 3 and falls to demand 2 at step 2."
+  -- one that changes no image,
   pub not-unchanged : NotUnchanged
-  -- "One that appends properly once and later only moves E falls to demand 2 at step 6."
+  -- and one that appends properly once and after that only moves E
   pub not-only-E : NotOnlyE
-  -- "An invented free count falls to check's definition over the SAT."
+  -- Check's free count is the SAT's
   pub check-counts : CheckCounts
-  -- "The (D) steps form a single computed list with a single statement"
+  -- The steps of the worked example, one computed list
   pub small-volume : SmallVolume
-  -- Document 01, of the modes: "The team compares this with Table 1-1 of 000 and lists any difference."
+  -- Where the rule of modes differs from the manual's Table 1-1
   pub table-differs : TableDiffers

@@ -1,4 +1,4 @@
--- Demand 2, "Formatting, allocating, .. and deleting do what the manual says as document 01 narrows it": what accepted calls do.
+-- Demand 2, formatting, allocating and deleting: what accepted calls do.
 use mathlib.Core.List.{List, [], _∷_}
 use mathlib.Core.Path.{_≡_}
 use mathlib.Core.Bool.{true, false, not}
@@ -23,7 +23,7 @@ use Rattle.desk.specs.declared.Report.the-variants.{Moved}
 use Rattle.desk.specs.declared.Answer.the-variants.{Done}
 use Rattle.promises.specs.Sectors.{Accepts}
 
--- Format: the formatted volume of the image's own length, whatever the image held, with no file, all but the system sectors free, and an
+-- RULES, Format: the formatted volume of the image's own length, whatever the image held, with no file, all but the system sectors free, and an
 -- empty desk
 pub record Formats (s : State) (o : Outcome) (id : List ℕ) (n : ℕ) : Type 0 where
   pub answered : o .answer ≡ Done (Moved 0)
@@ -39,9 +39,8 @@ pub record Formats (s : State) (o : Outcome) (id : List ℕ) (n : ℕ) : Type 0 
 abbrev pub AcceptedFormat : Type 0
 AcceptedFormat = (s : State) (id : List ℕ) (n : ℕ) → Accepts (Format id n) s → Formats s (step (Format id n) s) id n
 
--- Allocate: the file in slot j is found by its descriptor, "the lowest unused entry"; it is as asked for, "zero-filled", or "with no
--- data"; its sectors were free, from "the lowest start with the wanted sectors all free" on; the name is new, and every other is
--- found as before
+-- RULES, Allocate: the file is found by its descriptor in slot j, which is the lowest unused one; it is as asked for, and zeroed or empty; its
+-- sectors are the lowest run that was free, and no other sector's mark changes; the name is new, and every other is found as before
 pub record Allocates (s : State) (o : Outcome) (desc : List ℕ) (k n l j : ℕ) : Type 0 where
   pub answered : o .answer ≡ Done (Moved 0)
   pub found : (exists (o .image) desc ≡ true) × (slotOf (o .image) desc ≡ j)
@@ -68,7 +67,8 @@ AcceptedAllocate =
     (s : State) (caller : ℕ) (desc : List ℕ) (k n l : ℕ) → Accepts (Allocate caller desc k n l) s
     → (j : ℕ) × Allocates s (step (Allocate caller desc k n l) s) desc k n l j
 
--- Delete: the name is found no more, every other is as before; "frees the file's sectors, its FAB too", and no others; "their bytes stay"
+-- RULES, Delete: the name is found no more, and every other as before; all sectors that the file owned are free, and no others; what they
+-- hold is left as it is
 pub record Deletes (s : State) (o : Outcome) (desc : List ℕ) (j : ℕ) : Type 0 where
   pub answered : o .answer ≡ Done (Moved 0)
   pub was-found : (exists (s .image) desc ≡ true) × (slotOf (s .image) desc ≡ j)

@@ -18,8 +18,8 @@ use Rattle.desk.specs.declared.Answer.the-variants.{Done}
 use Rattle.promises.specs.Sectors.{Accepts}
 use Rattle.promises.specs.Contents.{OnlyLun}
 
--- Assign: the LUN holds the caller, the file of that descriptor and the mode asked for. Its place is "Fresh, or with position-at-end and a
--- writing mode At the last record or sector, n = 1 (Fresh if there is none)"
+-- RULES, Assign: the LUN is held by the caller, with the file of that descriptor and the mode asked for; RULES, Places and selectors: its place
+-- is Fresh, but if the end is asked for, the mode writes and there is a record or sector, At the last one
 pub record Seats (s : State) (o : Outcome) (caller lun : ℕ) (desc : List ℕ) (mode : ℕ) (end : Bool) (u : Lun) : Type 0 where
   pub answered : o .answer ≡ Done (Moved 0)
   pub image-kept : o .image ≡ s .image
@@ -38,7 +38,7 @@ AcceptedAssign =
     (s : State) (caller lun : ℕ) (desc : List ℕ) (mode : ℕ) (end : Bool) → Accepts (Assign caller lun desc mode end) s
     → (u : Lun) × Seats s (step (Assign caller lun desc mode end) s) caller lun desc mode end u
 
--- Close frees the LUN, "Rewind gives Fresh"
+-- RULES, Close and rewind: close frees the LUN, rewind makes its place Fresh
 pub record Frees (s : State) (o : Outcome) (lun : ℕ) : Type 0 where
   pub answered : o .answer ≡ Done (Moved 0)
   pub image-kept : o .image ≡ s .image

@@ -70,7 +70,7 @@ NoAccessBlock img =
     (j k a : ℕ) → File img j → File img k → contiguous (entryAt img j) ≡ false → hasSector img k a
     → leadsTo img k a ≢ start (entryAt img j)
 
--- "exactly the sectors nobody owns are marked free": of all the numbers that the SAT has, those from T on count as owned
+-- "exactly the sectors nobody owns are marked free": of all the numbers that the SAT has bits for; those from T on count as owned
 abbrev pub MarkedExactly : List ℕ → Type 0
 MarkedExactly img = (x : ℕ) → x < mostSectors → marked (sat img) x ≡ (leb (sectors img) x or among x (allOwned img))
 

@@ -1,4 +1,4 @@
--- The (D) steps of "A small volume, followed through": one computed list, one statement.
+-- RULES, Worked example: its steps, one computed list with one statement.
 use mathlib.Core.List.{List, _∷_, [], _++_}
 use mathlib.Core.Bool.{false}
 use mathlib.Core.Path.{_≡_, refl}
@@ -24,7 +24,7 @@ use Rattle.luns.specs.Luns.{luns-open}
 use Rattle.work.specs.Refusals.{refusals-open}
 use Rattle.work.specs.Volumes.{volumes-open}
 use Rattle.work.specs.Transfers.{transfers-open}
-use Rattle.desk.specs.Calls.{Call, Format, Allocate, Assign, Delete, Write, calls-open}
+use Rattle.desk.specs.Calls.{Call, Format, Allocate, Assign, Delete, Write, Update, calls-open}
 use Rattle.desk.specs.Answers.{Outcome, status, moved, answers-open}
 use Rattle.desk.specs.Desk.{state, State, emptyDesk, desk-open}
 use Rattle.promises.specs.Runs.{trace, next}
@@ -72,7 +72,7 @@ second k img = getD (logical img (entryAt img k)) 1 0
 unfoldable pub blank : State
 blank = state (replicate 4096 7) emptyDesk
 
--- document 01's steps by their numbers; file X is in slot 0, file Y in slot 1
+-- the steps by their numbers; file X is in slot 0, file Y in slot 1
 unfoldable pub story : List Step
 story =
     -- 1
@@ -99,6 +99,7 @@ story =
     ∷ record { call = Allocate 5 (desc 88) 0 8 0; look = λ img. free img ∷ [] }
     ∷ record { call = Write 5 0 3 3 (0x41 ∷ []); look = λ img. [] }
     ∷ record { call = Write 5 0 3 1 (0x41 ∷ []); look = λ img. [] }
+    ∷ record { call = Update 5 0 3 0 (replicate 4 0x41); look = λ img. [] }
     ∷ record { call = Allocate 5 (desc 88) 0 7 0; look = λ img. at 0 img ∷ [] }
     ∷ []
 
@@ -123,9 +124,10 @@ settled =
     ∷ (0 ∷ 250 ∷ 258 ∷ 0 ∷ 7 ∷ 0 ∷ 1 ∷ 0 ∷ 3 ∷ 0 ∷ 1 ∷ 0xF3 ∷ 0x01 ∷ 1 ∷ 3 ∷ 9 ∷ [])
     -- 7: 8 sectors are refused, though 9 are free
     ∷ (0x63 ∷ 0 ∷ 9 ∷ [])
-    -- 8: record 3 with two there; record 1
+    -- 8: write record 3 with two there; write record 1; update record 0 by 4 bytes
     ∷ (0xC2 ∷ 0 ∷ [])
     ∷ (0x62 ∷ 0 ∷ [])
+    ∷ (0x61 ∷ 0 ∷ [])
     -- 7: 7 sectors start at 8
     ∷ (0 ∷ 0 ∷ 8 ∷ [])
     -- 9: PR and EW are compatible, PR and ER are not
@@ -133,7 +135,6 @@ settled =
     ∷ (0 ∷ [])
     ∷ []
 
--- "The (D) steps form a single computed list with a single statement"
 abbrev pub SmallVolume : Type 0
 SmallVolume = steps ≡ settled
 

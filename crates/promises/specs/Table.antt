@@ -1,4 +1,4 @@
--- Table 1-1 of 000, cell by cell, and the cells in which document 01's rule differs from it.
+-- Table 1-1 of the manual, cell by cell, and the cells in which the rule of RULES, Modes differs from it.
 use mathlib.Core.List.{List, [], _∷_, _++_}
 use mathlib.Core.Bool.{Bool, true, false, not}
 use mathlib.Core.Path.{_≡_, refl}
@@ -63,8 +63,7 @@ pub differing : List Row → List Cell
 differing [] = []
 differing (r ∷ rs) = across (r .mode) columns (r .cells) ++ differing rs
 
--- "The team compares this with Table 1-1 of 000 and lists any difference": of the 64 cells three differ, and in each the table allows
--- what the rule refuses
+-- Of the 64 cells three differ, and in each the table allows what the rule refuses
 abbrev pub TableDiffers : Type 0
 TableDiffers = differing table ≡ cell Pr Er true ∷ cell Er Er true ∷ cell Erew Ew true ∷ []
 

@@ -1,4 +1,4 @@
--- Records and the stream that they make (000, 1.6.2).
+-- Records and the stream that they make. Defines RULES, Streams and records; Soundness (point 4, of one stream).
 use mathlib.Core.Bool.{Bool, false}
 use mathlib.Core.List.{List, _++_, [], _∷_}
 use Prim.Native.Nat.{ℕ, _%_, zero, suc, _+_, _*_, _/_}
@@ -8,11 +8,11 @@ use Rattle.numbers.specs.Numbers.{recordLimit}
 use Rattle.lists.specs.Lists.{_and_, _or_, if_then_else_, flat, pieces}
 use Rattle.lists.specs.Parts.{bytes2, blanks, part, zeros}
 
--- a record allowed for record length L, 0 for variable ones
+-- RULES, Words and numbers: a record allowed for record length L, 0 for variable ones
 unfoldable pub allowed : ℕ → List ℕ → Bool
 allowed l r = leb (length r) recordLimit and (eqb l 0 or eqb (length r) l)
 
--- a record's bytes in the stream: "Fixed: L bytes each. Variable: a count word .., that many bytes, and one zero byte if the count is odd."
+-- RULES, Streams and records: a record's bytes in the stream of a fixed and of a variable file
 unfoldable pub encoded : ℕ → List ℕ → List ℕ
 encoded l r = if eqb l 0 then bytes2 (length r) ++ (r ++ blanks (length r % 2)) else r
 
@@ -20,7 +20,7 @@ unfoldable pub streamOf : ℕ → List (List ℕ) → List ℕ
 streamOf l rs = flat (encoded l) rs
 
 -- Back from a stream, byte by byte; the first argument says how many bytes to pass over first.
--- `whole`: these are whole variable records, "a count word of at most 1,024". `cut`: their data
+-- `whole`: RULES, Soundness: point 4, these are whole variable records. `cut`: their data
 unfoldable pub whole : ℕ → List ℕ → Bool
 whole k [] = eqb k 0
 whole (suc k) (x ∷ s) = whole k s

@@ -1,4 +1,4 @@
--- Bytes over sectors: laid over them, and read from them one after the other.
+-- Bytes over sectors: laid over them, and read from them one after the other. Defines RULES, Streams and records (byte b of a stream).
 use mathlib.Core.List.{List, [], _∷_}
 use Prim.Native.Nat.{ℕ}
 use lib.ListN.{take, drop}

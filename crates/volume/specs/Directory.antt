@@ -1,4 +1,4 @@
--- "Directory: D consecutive sectors of 32-byte entries", an entry's fields, and point 2 of soundness.
+-- The directory's entries, their fields, and point 2 of soundness. Defines RULES, The directory; Soundness (point 2).
 use mathlib.Core.List.{List, [], _∷_, _++_}
 use mathlib.Core.Bool.{Bool, not, true}
 use Prim.Native.Nat.{ℕ, _*_, _+_}
@@ -10,18 +10,18 @@ use Rattle.lists.specs.Lists.{pieces, _and_, if_then_else_, same, all, _or_}
 use Rattle.volume.specs.Volume.{dirAt, dirs}
 use Rattle.volume.specs.Names.{descriptor}
 
--- the entries, counted from 0 as slots
+-- RULES, The directory: D sectors in a row, of 32-byte entries, counted from 0 as slots
 unfoldable pub entries : List ℕ → List (List ℕ)
 entries img = pieces (8 * dirs img) 32 (part (256 * dirAt img) (256 * dirs img) img)
 
 unfoldable pub entryAt : List ℕ → ℕ → List ℕ
 entryAt img k = getD (entries img) k []
 
--- "An unused entry is 32 zeros."
+-- RULES, The directory: an entry of 32 zeros is unused
 abbrev pub unused : List ℕ → Bool
 unused = zeros
 
--- "1 type, 0 contiguous or 1 sequential; 2-3 user; 4-11 catalog; 12-19 filename; 20-21 extension"
+-- RULES, The directory: byte 1 is the type, bytes 2-3 are the owner, bytes 2-21 the descriptor
 abbrev pub kind : List ℕ → ℕ
 kind e = byte e 1
 
@@ -34,7 +34,7 @@ owner e = word e 2
 unfoldable pub described : List ℕ → List ℕ
 described e = part 2 20 e
 
--- "24-25 record length; 26-27 first sector, or the access block's; 28-29 sectors (0 for sequential)"
+-- RULES, The directory: bytes 24-25 are the record length, 26-27 the first sector or the access block's, 28-29 the sectors
 abbrev pub recordLength : List ℕ → ℕ
 recordLength e = word e 24
 
@@ -44,7 +44,7 @@ start e = word e 26
 abbrev pub size : List ℕ → ℕ
 size e = word e 28
 
--- the fields of an entry in use, and the entry that has them; "0 is 1", "22-23 zero", "30-31 zero"
+-- the fields of an entry in use, and the entry that has them; RULES, The directory: byte 0 is 1, bytes 22-23 and 30-31 are zero
 pub record Fields : Type 0 where
   pub kind : ℕ
   pub described : List ℕ
@@ -60,18 +60,18 @@ entry f =
     1 ∷ f .kind ∷ (f .described
     ++ (0 ∷ 0 ∷ (bytes2 (f .recordLength) ++ (bytes2 (f .start) ++ (bytes2 (f .size) ++ (0 ∷ 0 ∷ []))))))
 
--- "A contiguous file has 1 or more sectors and record length 0; a sequential one has record length 0 (variable) to 1,024."
+-- RULES, The directory: sectors and record length of a contiguous and of a sequential file
 abbrev pub extentGood : List ℕ → Bool
 extentGood e =
     if contiguous e then leb 1 (size e) and eqb (recordLength e) 0 else eqb (size e) 0 and leb (recordLength e) recordLimit
 
--- "A used entry is valid when its fields are as above, user and names in range"
+-- RULES, The directory: what a valid entry holds
 unfoldable pub valid : List ℕ → Bool
 valid e =
     eqb (byte e 0) 1 and leb (kind e) 1 and descriptor (described e) and eqb (word e 22) 0 and eqb (word e 30) 0
     and extentGood e
 
--- "No two used entries agree in user, catalog, filename and extension."
+-- RULES, Names and descriptors: the entry whose bytes 2-21 equal a descriptor; RULES, The directory: two entries that clash
 unfoldable pub named : List ℕ → List ℕ → Bool
 named d e = same d (described e)
 
@@ -82,7 +82,7 @@ unfoldable pub namesDiffer : List (List ℕ) → Bool
 namesDiffer [] = true
 namesDiffer (e ∷ es) = all (λ d. not (clashes e d)) es and namesDiffer es
 
--- Sound, 2: "Each entry is unused or valid. No two used entries agree .."
+-- RULES, Soundness: point 2, every entry is unused or valid, and no two clash
 unfoldable pub sound2 : List ℕ → Bool
 sound2 img = all (λ e. unused e or valid e) (entries img) and namesDiffer (entries img)
 

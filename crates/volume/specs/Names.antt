@@ -1,4 +1,4 @@
--- "Names (000, 1.3): letters A-Z and digits, a letter first, then only trailing spaces."
+-- Names, descriptors and volume IDs. Defines RULES, Names and descriptors; Sector 0 (the ID).
 use mathlib.Core.Bool.{Bool, true, false}
 use mathlib.Core.List.{List, [], _∷_}
 use Prim.Native.Nat.{ℕ}
@@ -8,6 +8,7 @@ use Rattle.numbers.specs.Numbers.{lastUser}
 use Rattle.lists.specs.Lists.{_and_, all, _or_}
 use Rattle.lists.specs.Parts.{word, part}
 
+-- RULES, Names and descriptors: a name is a letter, then letters and digits, then nothing but spaces
 unfoldable pub letter : ℕ → Bool
 letter c = leb 65 c and leb c 90
 
@@ -25,17 +26,17 @@ unfoldable pub name : List ℕ → Bool
 name [] = false
 name (c ∷ cs) = letter c and nameEnd cs
 
--- the user that a descriptor names
+-- RULES, Names and descriptors: word 0 of a descriptor is the user
 abbrev pub userOf : List ℕ → ℕ
 userOf d = word d 0
 
--- "A descriptor is user, catalog, filename and extension in an entry's form: 20 bytes, and any other length is a bad one."
+-- RULES, Names and descriptors: a descriptor that is not bad, by its length, its user and its names
 unfoldable pub descriptor : List ℕ → Bool
 descriptor d =
     eqb (length d) 20 and leb (userOf d) lastUser and (name (part 2 8 d) or spaces (part 2 8 d)) and name (part 10 8 d)
     and name (part 18 2 d)
 
--- "Volume ID 1 to 4 characters": four bytes, the rest of them spaces
+-- RULES, Sector 0: the volume ID is a name of width 4: four bytes, the rest of them spaces
 unfoldable pub volumeId : List ℕ → Bool
 volumeId id = eqb (length id) 4 and name id
 

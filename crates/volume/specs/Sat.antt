@@ -1,4 +1,4 @@
--- The sector allocation table: its bits, the free sectors and the lowest run of them, and the table of given owners.
+-- The SAT: its bits, free sectors and the lowest run of them, and the table of given owners. Defines RULES, The sector allocation table.
 use mathlib.Core.Bool.{Bool, not, true, false}
 use mathlib.Core.List.{List, [], _∷_, map}
 use Prim.Native.Nat.{ℕ, _+_, _-_, _/_, _%_, _^_, _*_}
@@ -8,7 +8,7 @@ use Rattle.lists.specs.Lists.{range, kept, _and_, all, first, _or_, among}
 use Rattle.lists.specs.Parts.{sectors, putSector, byte}
 use Rattle.volume.specs.Volume.{sat, satAt}
 
--- "SAT: one bit a sector, 1 = allocated. The top bit of byte 0 is sector 0."
+-- RULES, The sector allocation table: the bit of sector s is 1 if it is allocated; sector 0 has the top bit of byte 0
 unfoldable pub marked : List ℕ → ℕ → Bool
 marked b s = eqb (byte b (s / 8) / 2 ^ (7 - s % 8) % 2) 1
 
@@ -21,11 +21,11 @@ freeSectors img = kept (isFree (sat img)) (range 0 (sectors img))
 unfoldable pub free : List ℕ → ℕ
 free img = length (freeSectors img)
 
--- "New sectors are the lowest free ones"
+-- RULES, Write: the new sectors are the lowest free ones in rising order
 unfoldable pub lowest : ℕ → List ℕ → List ℕ
 lowest n img = take n (freeSectors img)
 
--- "the lowest start with the wanted sectors all free", or T
+-- RULES, The sector allocation table: a free run of n sectors from s on; where the lowest one starts, or T
 unfoldable pub runAt : List ℕ → ℕ → ℕ → ℕ → Bool
 runAt b t n s = leb (s + n) t and all (isFree b) (range s n)
 
@@ -45,7 +45,7 @@ unfoldable pub withBits : ℕ → List ℕ → List ℕ → List ℕ
 withBits v b [] = b
 withBits v b (s ∷ ss) = withBits v (withBit v b s) ss
 
--- the SAT of t sectors that marks those of the list, "also for numbers from T on"
+-- the SAT of t sectors that marks those of the list; RULES, The sector allocation table: the bits of numbers from T on are 1
 unfoldable pub owns : ℕ → List ℕ → ℕ → Bool
 owns t own s = leb t s or among s own
 

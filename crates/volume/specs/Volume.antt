@@ -1,4 +1,4 @@
--- Where things are on a volume, its system sectors, and point 1 of soundness.
+-- Where things are on a volume, and point 1 of soundness. Defines RULES, The trailer; Owners of sectors (the system's); Soundness (point 1).
 use mathlib.Core.List.{List, _∷_}
 use mathlib.Core.Bool.{Bool}
 use Prim.Native.Nat.{ℕ, _-_, _+_, _*_}
@@ -10,11 +10,11 @@ use Rattle.lists.specs.Lists.{range, _and_}
 use Rattle.volume.specs.Names.{volumeId}
 use Rattle.volume.specs.declared.locate.Layout.{Layout}
 
--- "Sector T-1, the trailer"
+-- RULES, The trailer: sector T-1
 unfoldable pub trailer : List ℕ → List ℕ
 trailer img = sector (sectors img - 1) img
 
--- "word 2 = distance back from the trailer to the SAT; word 4 = distance back to the first directory sector; word 6 = D"
+-- RULES, The trailer: word 2 is the distance back to the SAT, word 4 the one to the directory's first sector, word 6 is D
 abbrev pub satBack : List ℕ → ℕ
 satBack tr = word tr 2
 
@@ -36,7 +36,7 @@ dirs img = dirCount (trailer img)
 unfoldable pub sat : List ℕ → List ℕ
 sat img = sector (satAt img) img
 
--- "System sectors are 0, the SAT, the D directory sectors and T-1."
+-- RULES, Owners of sectors: the system owns sector 0, the SAT, the trailer and the directory's
 unfoldable pub systemOf : Layout → List ℕ
 systemOf p = 0 ∷ p .sat ∷ (p .t - 1) ∷ range (p .dir) (p .dirs)
 
@@ -47,12 +47,12 @@ layoutOf img = record { t = sectors img; sat = satAt img; dir = dirAt img; dirs 
 unfoldable pub system : List ℕ → List ℕ
 system img = systemOf (layoutOf img)
 
--- "T and D are in range"
+-- RULES, Words and numbers: T and D within their limits
 unfoldable pub inRange : ℕ → ℕ → Bool
 inRange t d = leb fewestSectors t and leb t mostSectors and leb 1 d and leb d mostDirs
 
--- Sound, 1: "Its length is 256 times T, T and D are in range, the volume ID is valid, the trailer is as above, and the SAT and
--- directory lie inside the volume."
+-- RULES, Soundness: point 1, the image's length, T and D, the ID, the trailer's word 0 and its zeros, distances below T, and the directory's
+-- last sector
 unfoldable pub sound1 : List ℕ → Bool
 sound1 img =
     eqb (length img) (256 * sectors img) and inRange (sectors img) (dirs img) and volumeId (take 4 img)

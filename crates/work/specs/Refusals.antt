@@ -1,4 +1,4 @@
--- Refusals: each one's number, and the form in which every call's refusals stand in order.
+-- Refusals: each one's number, and the form in which every call's refusals stand in order. Defines RULES, Status numbers (the numbers).
 use mathlib.Core.Bool.{Bool}
 use mathlib.Core.List.{List, [], _∷_}
 use Prim.Native.Nat.{ℕ}
@@ -8,7 +8,7 @@ use Rattle.work.specs.declared.Refusal.the-variants.{UnknownType, BadLun
 use Rattle.work.specs.declared.Refusal.the-variants.{OutOfRange, OtherLength, Exists, NoRoom, BadDescriptor, NoSegment, NameTaken}
 use Rattle.work.specs.declared.Refusal.the-variants.{DirectoryFull, NotSound}
 
--- the status table's numbers
+-- RULES, Status numbers
 abbrev pub code : Refusal → ℕ
 code UnknownType = 0x02
 code BadLun = 0x03
@@ -37,7 +37,7 @@ infix 90 _if_
 abbrev pub _if_ : Refusal → Bool → Rule
 r if b = record { refusal = r; holds = b }
 
--- "The first that applies wins": what `refuse` makes of it; if none applies, `done`
+-- RULES, The calls: the first refusal whose condition holds is answered: what `refuse` makes of it; if none holds, `done`
 module _ {A : Type 0} where
   unfoldable pub ruled : List Rule → (Refusal → A) → A → A
   ruled [] refuse done = done

@@ -1,5 +1,5 @@
--- The transfers read, write and update, as far as they speak of the volume alone: of the file with the entry e, from its record or
--- sector i on. "$84, $C2, then: $84 ..; $61; $62; $63; $65"
+-- The transfers, as far as they speak of the volume alone. Defines RULES, Read; Write; Update; Orders of refusals (after the opening). Each is
+-- of the file with the entry e, from its record or sector i on.
 use mathlib.Core.List.{List, [], _∷_}
 use mathlib.Core.Bool.{Bool, not}
 use Prim.Native.Nat.{ℕ, _/_, _*_, _%_, _+_, _-_}
@@ -31,25 +31,26 @@ units e m = if contiguous e then m / 256 else 1
 unfoldable pub moving : List ℕ → ℕ → ℕ → List ℕ → List ℕ → Moving
 moving e i m img buf = record { bytes = m; from = i; count = units e m; image = img; buffer = buf }
 
--- "contiguous length 0, no multiple of 256 or over 4,096"
+-- RULES, Status numbers: $84, 0 bytes, no multiple of 256, or over 4,096
 unfoldable pub oddLength : ℕ → Bool
 oddLength n = eqb n 0 or not (eqb (n % 256) 0) or ltb (256 * mostMoved) n
 
--- "sequential write or update over 1,024 or, in a fixed file, not L"
+-- RULES, Status numbers: $84 of a write or update: a contiguous file's as above; over 1,024 bytes or, in a fixed file, not exactly L
 unfoldable pub wrongLength : List ℕ → List ℕ → Bool
 wrongLength e bs = if contiguous e then oddLength (length bs) else not (allowed (recordLength e) bs)
 
--- "a read, update or contiguous transfer starting at or past the end"
+-- RULES, Status numbers: $C2 of a read or update: the target is at or past the extent
 unfoldable pub ended : List ℕ → List ℕ → ℕ → Bool
 ended img e i = leb (extent img e) i
 
--- "Read, contiguous: as many sectors as the buffer holds, or up to the end. Sequential: one record's data."
+-- RULES, Read: as many sectors as the buffer has room for, or fewer if the end comes first; the target record's data
 unfoldable pub readable : List ℕ → ℕ → ℕ → ℕ
 readable e i n = if leb (i + n / 256) (size e) then n / 256 else size e - i
 
 unfoldable pub dataAt : List ℕ → List ℕ → ℕ → ℕ → List ℕ
 dataAt img e i n = if contiguous e then sectorsAt e i (readable e i n) img else recordAt img e i
 
+-- RULES, Orders of refusals: read, from $84 on: $84 (contiguous), $C2, $84 (sequential)
 unfoldable pub readRules : List ℕ → List ℕ → ℕ → ℕ → List Rule
 readRules img e i n =
     BadLength if (contiguous e and oddLength n)
@@ -57,21 +58,22 @@ readRules img e i n =
     ∷ BadLength if (not (contiguous e) and ltb n (length (recordAt img e i)))
     ∷ []
 
--- "Buffer bytes after it stay."
+-- RULES, Read: to the front of the buffer, the rest of which stays
 unfoldable pub reading : List ℕ → List ℕ → ℕ → List ℕ → Moving
 reading img e i buf = moving e i (length (dataAt img e i (length buf))) img (over (dataAt img e i (length buf)) buf)
 
--- "a contiguous write that would cross it; a sequential write to a number above the record count"
+-- RULES, Status numbers: $C2 of a write; of a contiguous file, to start at or past the extent and to cross it are one rule
 unfoldable pub beyond : List ℕ → List ℕ → ℕ → ℕ → Bool
 beyond img e i n = if contiguous e then ended img e i or ltb (extent img e) (i + n / 256) else ltb (extent img e) i
 
--- the sectors and segments that an append needs: $63, $65
+-- RULES, Status numbers: the sectors and segments that an append needs: $63, $65
 unfoldable pub roomRules : List ℕ → List ℕ → List ℕ → List Rule
 roomRules img e bs =
     NoRoom if (not (contiguous e) and ltb (free img) (needed img e bs))
     ∷ NoSegment if (not (contiguous e) and ltb mostSegments (length (newPairs img e bs)))
     ∷ []
 
+-- RULES, Orders of refusals: write, from $84 on: $84, $C2, $62, $63, $65
 unfoldable pub writeRules : List ℕ → List ℕ → ℕ → List ℕ → List Rule
 writeRules img e i bs =
     BadLength if wrongLength e bs
@@ -85,7 +87,7 @@ written e i bs img = if contiguous e then overwritten e i bs img else appended e
 unfoldable pub writing : List ℕ → List ℕ → ℕ → List ℕ → Moving
 writing img e i bs = moving e i (length bs) (written e i bs img) bs
 
--- $82 for an "update of a contiguous file", after the opening that all transfers share
+-- RULES, Orders of refusals: update, after the opening that all transfers share: $82 (contiguous), $84, $C2, $61
 unfoldable pub updateRules : List ℕ → List ℕ → ℕ → List ℕ → List Rule
 updateRules img e i bs =
     BadRequest if contiguous e

@@ -1,4 +1,4 @@
--- The rules of format, allocate and of finding a file, as far as they speak of the volume alone, in the order of the status table.
+-- Rules of format, of allocate and of finding a file, of the volume alone. Defines RULES, Format; Allocate; Orders of refusals (theirs).
 use mathlib.Core.Bool.{not, Bool}
 use mathlib.Core.List.{List, [], _∷_}
 use Prim.Native.Nat.{ℕ, _*_}
@@ -17,33 +17,33 @@ use Rattle.work.specs.declared.Refusal.the-variants.{OutOfRange, NoFile,
 use Rattle.work.specs.declared.Refusal.the-variants.{NameTaken}
 use Rattle.work.specs.Refusals.{Rule, _if_}
 
--- Format: "$60 only": "numbers out of range, an image .. that is no multiple of 256 bytes, or a bad volume ID"
+-- RULES, Orders of refusals: format: $60
 unfoldable pub formatRules : List ℕ → List ℕ → ℕ → List Rule
 formatRules img id n = OutOfRange if not (eqb (length img) (256 * sectors img) and inRange (sectors img) n and volumeId id) ∷ []
 
--- "stops at the first match": the slot of a descriptor, or the number of entries
+-- RULES, Names and descriptors: the file of a descriptor is the first entry that equals it: its slot, or the number of entries
 unfoldable pub slotOf : List ℕ → List ℕ → ℕ
 slotOf img desc = index (named desc) (entries img)
 
 unfoldable pub exists : List ℕ → List ℕ → Bool
 exists img desc = some (named desc) (entries img)
 
--- the file of a descriptor: $64, $17
+-- RULES, Status numbers: the file of a descriptor: $64, $17
 unfoldable pub namedRules : List ℕ → List ℕ → List Rule
 namedRules img desc = BadDescriptor if not (descriptor desc) ∷ NoFile if not (exists img desc) ∷ []
 
--- "Contiguous size 1 to 2,048, record length 0; sequential size 0, record length 0 to 1,024."
+-- RULES, Status numbers: $60 of allocate: size and record length by the type
 unfoldable pub sized : ℕ → ℕ → ℕ → Bool
 sized k n l = if eqb k 0 then leb 1 n and leb n mostSectors and eqb l 0 else eqb n 0 and leb l recordLimit
 
--- an entry and a run for a new file: $67, $63; "uses the lowest unused entry", "the lowest start with the wanted sectors all free"
+-- RULES, Allocate: an unused entry, and a free run: $67, $63
 unfoldable pub placeRules : List ℕ → ℕ → ℕ → List Rule
 placeRules img k n =
     DirectoryFull if not (some unused (entries img))
     ∷ NoRoom if leb (sectors img) (lowestRun (taken k n) img)
     ∷ []
 
--- Allocate, from $64 on: "$64, $02, $60, $0B, $66, $67, $63"
+-- RULES, Orders of refusals: allocate, from $64 on: $64, $02, $60, $0B, $66, $67, $63
 unfoldable pub allocateRules : List ℕ → ℕ → List ℕ → ℕ → ℕ → ℕ → List Rule
 allocateRules img caller desc k n l =
     BadDescriptor if not (descriptor desc)
@@ -53,7 +53,7 @@ allocateRules img caller desc k n l =
     ∷ NameTaken if exists img desc
     ∷ placeRules img k n
 
--- .. and what it makes of the image
+-- RULES, Allocate: the lowest unused entry, and the lowest free run: what becomes of the image
 unfoldable pub newFile : List ℕ → List ℕ → ℕ → ℕ → ℕ → List ℕ
 newFile img desc k n l = allocated (index unused (entries img)) desc k n l (lowestRun (taken k n) img) img
 

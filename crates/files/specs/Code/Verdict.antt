@@ -13,6 +13,6 @@ use Rattle.files.specs.declared.check.Checked.{Checked}
 unfoldable pub soundAt : List ℕ → Where
 soundAt img = if sound img then At (layoutOf img) else Nowhere
 
--- "sound or not, and the number of free sectors (0 if not sound)"
+-- RULES, Check: whether the volume is sound, and how many sectors are free; 0 if it is not sound
 unfoldable pub checkedOf : List ℕ → Checked
 checkedOf img = record { sound = sound img; free = if sound img then free img else 0 }

@@ -23,7 +23,7 @@ pub record Claims (xs m : List ℕ) (r : Bool) (m′ : List ℕ) : Type 0 where
   pub answer : r ≡ claim m xs
   pub marks : r ≡ true → m′ ≡ claimed m xs
 
--- marks to start from: 0 below t, and 1 "also for numbers from T on"
+-- marks to start from: 0 below t, and 1 from t on; RULES, The sector allocation table: the bits of numbers from T on are 1
 unfoldable pub fresh : ℕ → List ℕ
 fresh t = blanks t ++ replicate (mostSectors - t) 1
 

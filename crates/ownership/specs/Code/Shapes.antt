@@ -14,7 +14,7 @@ use Rattle.ownership.specs.Blocks.{segments, total, streamLength, segSta
 unfoldable pub fours : List (List ℕ) → Bool
 fours ps = all (λ p. eqb (length p) 4) ps
 
--- "n is at most 62 and unused pairs are zero"
+-- RULES, Soundness: point 3, at most 62 segments, and zeros after the n pairs
 pub record BlockShaped (f : List ℕ) : Type 0 where
   pub whole : length f ≡ 256
   pub few : segments f ≤ mostSegments
