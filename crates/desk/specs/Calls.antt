@@ -1,6 +1,6 @@
--- The calls as values. Defines RULES, The calls (with all of Format to Update); Orders of refusals. Of each call: its rules in its own order,
--- its change, the buffer that it was lent, the bytes that it was sent, and what it may touch. `step` is what every public function states of
--- itself.
+-- The calls as values. Defines RULES, The calls (with all of Format to Update); Orders of refusals. Of each call: its rules in its own
+-- order, its change, the buffer that it was lent, the bytes that it was sent, and what it may touch. `step` is what every public function
+-- states of itself.
 use mathlib.Core.Bool.{Bool, not, true}
 use mathlib.Core.List.{List, [], _∷_, _++_}
 use mathlib.Core.Path.{_≡_}

@@ -30,7 +30,7 @@ unfoldable pub deleted : ℕ → List ℕ → List ℕ
 deleted at img =
     putEntry img at (blanks 32) (putSat img (withBits 0 (sat img) (owned img (entryAt img at))) img)
 
--- RULES, Write: appending: the stream with the record after it, the sectors that it needs beyond those that are there, and the segments with them
+-- RULES, Write: an append: the stream with the record after it, the sectors needed beyond those that are there, the segments with them
 unfoldable pub longer : List ℕ → List ℕ → List ℕ → List ℕ
 longer img e r = stream img e ++ encoded (recordLength e) r
 

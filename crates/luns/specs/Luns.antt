@@ -1,4 +1,5 @@
--- Logical units, the places that selectors name, and whether sixteen fit a volume. Defines RULES, Logical units; Places and selectors; Fitting.
+-- Logical units, the places that selectors name, and whether sixteen fit a volume.
+-- Defines RULES, Logical units; Places and selectors; Fitting.
 use mathlib.Core.Bool.{false, Bool, not, true}
 use mathlib.Core.List.{List, [], _∷_}
 use Prim.Native.Nat.{ℕ, _+_, _-_}

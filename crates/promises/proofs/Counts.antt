@@ -5,22 +5,21 @@ use mathlib.Core.List.{List}
 use Prim.Native.Nat.{ℕ, _+_, _*_, _<_}
 use native.Mathlib.Omega.{arith}
 use lib.ListN.{length}
-use Rattle.lists.specs.Parts.{sectors, blanks}
+use Rattle.lists.specs.Parts.{blanks}
 use Rattle.lists.specs.Lists.{index, if_then_else_}
 use Rattle.lists.proofs.Tests.{zeros-blanks}
 use Rattle.lists.proofs.Ranges.{length-range}
-use Rattle.volume.specs.Volume.{dirs, sat}
+use Rattle.volume.specs.Volume.{dirs}
 use Rattle.volume.specs.Directory.{entries, entryAt, unused, contiguous, named, recordLength}
-use Rattle.volume.specs.Sat.{free, freeSectors, lowestRun}
+use Rattle.volume.specs.Sat.{free, lowestRun}
 use Rattle.ownership.specs.Owners.{owned}
 use Rattle.files.specs.Files.{sound}
-use Rattle.files.specs.Changes.{taken, needed, updated, overwritten, deleted}
+use Rattle.files.specs.Changes.{taken, needed, overwritten, deleted}
 use Rattle.files.proofs.SoundFacts.{facts}
 use Rattle.files.proofs.UsedSlots.{named-used}
-use Rattle.files.proofs.OneFileChanged.{sectors-kept}
 use Rattle.keeping.proofs.AllocateKeeps.{allocate-changed, allocate-sound, allocate-owned}
 use Rattle.keeping.proofs.DeleteKeeps.{delete-changed, delete-sound}
-use Rattle.keeping.proofs.OverwriteKeeps.{overwritten-sat}
+use Rattle.keeping.proofs.OverwriteKeeps.{overwritten-free}
 use Rattle.keeping.proofs.FreeCounts.{changed-free, unused-count, run-count, records-count, appended-free, encoded-count, needed-count}
 use Rattle.keeping.proofs.SlotFound.{slot-holds}
 use Rattle.work.specs.Volumes.{exists, slotOf, newFile}
@@ -32,18 +31,13 @@ use Rattle.promises.specs.Sectors.{Bytes}
 use Rattle.promises.specs.Contents.{slotHeld, NoFormat}
 use Rattle.promises.specs.Counts.{sectorsHeld, growth, trade, FreeCount}
 use Rattle.promises.proofs.Passing.{Accepted, accepted}
-use Rattle.promises.proofs.Told.{AllocateTold, allocate-told, DeleteTold, delete-told, WriteTold, write-told, UpdateTold, update-told}
+use Rattle.promises.proofs.Told.{AllocateTold, allocate-told, DeleteTold, delete-told, WriteTold, write-told, update-told}
 use Rattle.promises.proofs.Held.{entryOf, ready-sound}
 use Rattle.promises.proofs.Filing.{can-allocate, slot-there}
 use Rattle.promises.proofs.Appending.{Appending, appending}
-use Rattle.promises.proofs.Overwriting.{Overwriting, overwriting, overwrite-rewrites}
-use Rattle.promises.proofs.Updating.{rewrites, update-sat}
+use Rattle.promises.proofs.Overwriting.{Overwriting, overwriting}
+use Rattle.promises.proofs.Updating.{update-free}
 use Rattle.promises.proofs.Writing.{written-run, written-records}
-
--- the SAT stays
-free-kept : (v v′ : List ℕ) → sat v′ ≡ sat v → sectors v′ ≡ sectors v → free v′ ≡ free v
-unfolding free freeSectors
-free-kept v v′ a b = rw (a, b)
 
 -- Allocate takes the run
 free-allocate : (caller : ℕ) (desc : List ℕ) (k n l : ℕ) (s : State) → AllocateTold s caller desc k n l
@@ -105,24 +99,14 @@ module _ (caller lun sel num : ℕ) (bs : List ℕ) (s : State) (T : WriteTold s
       go true q =
           let O : Overwriting s lun i bs = overwriting caller lun sel num bs s T q in
           let H = O .held-file in
-          let R = overwrite-rewrites s lun i bs O in
           let f : free (overwritten e i bs v) ≡ free v =
-          free-kept v (overwritten e i bs v)
-          (overwritten-sat v (H .facts-of) (slotHeld s lun) (H .slot-in) (H .lun-ok .used) (O .runs) i _ bs (O .inside) (O .in-sectors .whole))
-          (sectors-kept v _ _ _ _ (R .changed)) in
+          overwritten-free v (H .facts-of) (slotHeld s lun) (H .slot-in) (H .lun-ok .used) (O .runs) i _ bs (O .inside) (O .in-sectors .whole) in
           rw (q, written-run e i bs v q) (omega (arith, f))
       go false q =
           let A : Appending s lun i bs = appending caller lun sel num bs s T q in
           let H = A .held-file in
           let f = appended-free v (H .facts-of) (slotHeld s lun) (H .slot-in) (H .lun-ok .used) (A .sequential) bs (A .fine) (A .enough) (A .few) in
           rw (q, written-records e i bs v q, sym (needs q)) (omega (arith, f))
-
--- Update leaves the SAT
-free-update : (caller lun sel num : ℕ) (bs : List ℕ) (s : State) → Bytes (s .image) → UpdateTold s caller lun sel num bs
-    → free (updated (entryOf s lun) (aimed s lun sel num) bs (s .image)) ≡ free (s .image)
-free-update caller lun sel num bs s b T =
-    let R = rewrites caller lun sel num bs s b T in
-    free-kept (s .image) _ (update-sat caller lun sel num bs s b T) (sectors-kept (s .image) _ _ _ _ (R .changed))
 
 counted : (c : Call) (s : State) → Bytes (s .image) → NoFormat c → Accepted c s → free (done c s .image) + trade c s .takes ≡ free (s .image) + trade c s .gives
 unfolding done quietly checked transferred trade fileOf reading writing updating moving taken
@@ -135,7 +119,7 @@ counted (Rewind caller lun) s b h a = refl
 counted (Delete caller desc) s b h a = omega (arith, free-delete caller desc s (delete-told caller desc s a))
 counted (Read caller lun sel num buf) s b h a = refl
 counted (Write caller lun sel num bs) s b h a = free-write caller lun sel num bs s (write-told caller lun sel num bs s a)
-counted (Update caller lun sel num bs) s b h a = omega (arith, free-update caller lun sel num bs s b (update-told caller lun sel num bs s a))
+counted (Update caller lun sel num bs) s b h a = omega (arith, update-free caller lun sel num bs s b (update-told caller lun sel num bs s a))
 
 pub free-count : FreeCount
 free-count s b c n h =

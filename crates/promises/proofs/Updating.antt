@@ -6,12 +6,12 @@ use mathlib.Core.List.{List}
 use Prim.Native.Nat.{ℕ, _<_}
 use native.Mathlib.Omega.{arith}
 use lib.ListN.{length, set, length-set}
-use Rattle.volume.specs.Volume.{sat}
 use Rattle.volume.specs.Directory.{entryAt, contiguous, recordLength}
+use Rattle.volume.specs.Sat.{free}
 use Rattle.records.specs.Records.{allowed}
 use Rattle.files.specs.Files.{extent, records, recordAt}
 use Rattle.files.specs.Changes.{updated}
-use Rattle.files.proofs.RecordUpdated.{updated-changed, updated-sat, updated-sound, updated-entry, records-updated, bytes-updated}
+use Rattle.files.proofs.RecordUpdated.{updated-changed, updated-free, updated-sound, updated-entry, records-updated, bytes-updated}
 use Rattle.luns.specs.declared.Place.the-variants.{At}
 use Rattle.luns.specs.Luns.{movedTo}
 use Rattle.work.specs.Transfers.{moving, updating}
@@ -73,10 +73,10 @@ module _ (caller lun sel num : ℕ) (bs : List ℕ) (s : State) (bi : Bytes (s .
   extent-after =
       extent-records v′ e sequential ∙ ap length update-records ∙ length-set (records v e) i bs ∙ sym (extent-records v e sequential)
 
-  pub update-sat : sat (updated (entryOf s lun) (aimed s lun sel num) bs (s .image)) ≡ sat (s .image)
-  update-sat = updated-sat v (H .facts-of) k (H .slot-in) (H .lun-ok .used) sequential bi i bs there fine long
+  pub update-free : free (updated (entryOf s lun) (aimed s lun sel num) bs (s .image)) ≡ free (s .image)
+  update-free = updated-free v (H .facts-of) k (H .slot-in) (H .lun-ok .used) sequential bi i bs there fine long
 
-  pub rewrites : Rewrites s lun bs (updated (entryOf s lun) (aimed s lun sel num) bs (s .image)) (aimed s lun sel num) 1
+  rewrites : Rewrites s lun bs v′ i 1
   rewrites = record {
     ws = _;
     changed = updated-changed v (H .facts-of) k (H .slot-in) (H .lun-ok .used) sequential bi i bs there fine long;

@@ -40,7 +40,7 @@ NotAllDone = (p : Program) → RefusesExactly p → ((c : Call) (s : State) → 
 abbrev pub NotUnchanged : Type 0
 NotUnchanged = (p : Program) → Meets p → ((c : Call) (s : State) → p c s .image ≡ s .image) → ⊥
 
--- One that appends a file's first record properly, and after that only moves E (bytes 4-7 of the access block), falls to demand 2 at step 6
+-- One that appends a file's first record properly and then only moves E (bytes 4-7 of the access block) falls to demand 2 at step 6
 pub record OnlyMovesE (img e img′ : List ℕ) : Type 0 where
   pub newE : List ℕ
   pub four : length newE ≡ 4

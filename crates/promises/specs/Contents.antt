@@ -81,7 +81,8 @@ AcceptedUpdate =
     (s : State) → Bytes (s .image) → (caller lun sel num : ℕ) (bs : List ℕ) → Accepts (Update caller lun sel num bs) s
     → Updated s (step (Update caller lun sel num bs) s) lun (aimed s lun sel num) bs
 
--- RULES, Read: as many sectors as the buffer has room for, or fewer if the end comes first; or the record's data. The rest of the buffer stays
+-- RULES, Read: as many sectors as the buffer has room for, or fewer if the end comes first; or the record's data.
+-- The rest of the buffer stays
 abbrev pub least : ℕ → ℕ → ℕ
 least m n = if leb m n then m else n
 

@@ -23,8 +23,8 @@ use Rattle.desk.specs.declared.Report.the-variants.{Moved}
 use Rattle.desk.specs.declared.Answer.the-variants.{Done}
 use Rattle.promises.specs.Sectors.{Accepts}
 
--- RULES, Format: the formatted volume of the image's own length, whatever the image held, with no file, all but the system sectors free, and an
--- empty desk
+-- RULES, Format: the formatted volume of the image's own length, whatever the image held, with no file, all but the system sectors free,
+-- and an empty desk
 pub record Formats (s : State) (o : Outcome) (id : List ℕ) (n : ℕ) : Type 0 where
   pub answered : o .answer ≡ Done (Moved 0)
   pub is-formatted : o .image ≡ formatted id n (sectors (s .image))
@@ -39,8 +39,8 @@ pub record Formats (s : State) (o : Outcome) (id : List ℕ) (n : ℕ) : Type 0 
 abbrev pub AcceptedFormat : Type 0
 AcceptedFormat = (s : State) (id : List ℕ) (n : ℕ) → Accepts (Format id n) s → Formats s (step (Format id n) s) id n
 
--- RULES, Allocate: the file is found by its descriptor in slot j, which is the lowest unused one; it is as asked for, and zeroed or empty; its
--- sectors are the lowest run that was free, and no other sector's mark changes; the name is new, and every other is found as before
+-- RULES, Allocate: the file is found by its descriptor in slot j, which is the lowest unused one; it is as asked for, and zeroed or empty;
+-- its sectors are the lowest run that was free, and no other sector's mark changes; the name is new, and every other is found as before
 pub record Allocates (s : State) (o : Outcome) (desc : List ℕ) (k n l j : ℕ) : Type 0 where
   pub answered : o .answer ≡ Done (Moved 0)
   pub found : (exists (o .image) desc ≡ true) × (slotOf (o .image) desc ≡ j)

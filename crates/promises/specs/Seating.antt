@@ -18,8 +18,8 @@ use Rattle.desk.specs.declared.Answer.the-variants.{Done}
 use Rattle.promises.specs.Sectors.{Accepts}
 use Rattle.promises.specs.Contents.{OnlyLun}
 
--- RULES, Assign: the LUN is held by the caller, with the file of that descriptor and the mode asked for; RULES, Places and selectors: its place
--- is Fresh, but if the end is asked for, the mode writes and there is a record or sector, At the last one
+-- RULES, Assign: the LUN is held by the caller, with the file of that descriptor and the mode asked for; RULES, Places and selectors: its
+-- place is Fresh, but if the end is asked for, the mode writes and there is a record or sector, At the last one
 pub record Seats (s : State) (o : Outcome) (caller lun : ℕ) (desc : List ℕ) (mode : ℕ) (end : Bool) (u : Lun) : Type 0 where
   pub answered : o .answer ≡ Done (Moved 0)
   pub image-kept : o .image ≡ s .image

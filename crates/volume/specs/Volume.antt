@@ -1,4 +1,5 @@
--- Where things are on a volume, and point 1 of soundness. Defines RULES, The trailer; Owners of sectors (the system's); Soundness (point 1).
+-- Where things are on a volume, and point 1 of soundness.
+-- Defines RULES, The trailer; Owners of sectors (the system's); Soundness (point 1).
 use mathlib.Core.List.{List, _∷_}
 use mathlib.Core.Bool.{Bool}
 use Prim.Native.Nat.{ℕ, _-_, _+_, _*_}
@@ -51,8 +52,8 @@ system img = systemOf (layoutOf img)
 unfoldable pub inRange : ℕ → ℕ → Bool
 inRange t d = leb fewestSectors t and leb t mostSectors and leb 1 d and leb d mostDirs
 
--- RULES, Soundness: point 1, the image's length, T and D, the ID, the trailer's word 0 and its zeros, distances below T, and the directory's
--- last sector
+-- RULES, Soundness: point 1, the image's length, T and D, the ID, the trailer's word 0 and its zeros, distances below T, and the
+-- directory's last sector
 unfoldable pub sound1 : List ℕ → Bool
 sound1 img =
     eqb (length img) (256 * sectors img) and inRange (sectors img) (dirs img) and volumeId (take 4 img)

@@ -1,5 +1,5 @@
--- The transfers, as far as they speak of the volume alone. Defines RULES, Read; Write; Update; Orders of refusals (after the opening). Each is
--- of the file with the entry e, from its record or sector i on.
+-- The transfers, as far as they speak of the volume alone. Defines RULES, Read; Write; Update; Orders of refusals (after the opening).
+-- Each is of the file with the entry e, from its record or sector i on.
 use mathlib.Core.List.{List, [], _∷_}
 use mathlib.Core.Bool.{Bool, not}
 use Prim.Native.Nat.{ℕ, _/_, _*_, _%_, _+_, _-_}
