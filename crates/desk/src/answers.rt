@@ -1,4 +1,4 @@
-// Answers as the paper has them: the status table's number, and the length.
+// Answers as docs/RULES.md, "Answers", has them: the status number, and the length.
 ghost use mathlib.Core.Path.{_≡_};
 ghost use Rattle.work.specs.Refusals.{code};
 ghost use Rattle.desk.specs.Answers.{status, moved, movedBy, accepts};

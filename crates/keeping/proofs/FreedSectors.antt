@@ -5,7 +5,7 @@ use mathlib.Core.List.{List, [], _++_}
 use Prim.Native.Nat.{ℕ, _*_, _<_}
 use native.Mathlib.Omega.{arith}
 use borrow.Author.Tests.{lt-leb}
-use Rattle.lists.specs.Lists.{_or_, range, among, distinct, index}
+use Rattle.lists.specs.Lists.{_or_, _and_, range, among, distinct, index}
 use Rattle.lists.specs.Parts.{blanks, sectors}
 use Rattle.lists.proofs.Tests.{or-second, zeros-blanks}
 use Rattle.lists.proofs.Bools.{or-false}
@@ -46,6 +46,18 @@ without p g b x d = by (among x g) refl
     by true q = ap not (middle-apart p g b x d q) ∙ sym (or-second _ _ q)
     by false q = rw (among-append x p b, among-append x p (g ++ b), among-append x g b, q) (none (among x p) (among x b))
 
+-- what is outside all is outside that part, and outside the others
+with-more : (p g b : List ℕ) (x : ℕ) → not (among x (p ++ (g ++ b))) ≡ (not (among x (p ++ b)) and not (among x g))
+unfolding _or_ _and_
+with-more p g b x = rw (among-append x p (g ++ b), among-append x g b, among-append x p b) (by (among x p) (among x g) (among x b))
+  where
+    by : (a c d : Bool) → not (a or (c or d)) ≡ (not (a or d) and not c)
+    by true c d = refl
+    by false true true = refl
+    by false true false = refl
+    by false false true = refl
+    by false false false = refl
+
 -- so of two sound volumes whose owners differ in one part
 module _ (v w : List ℕ) (F : Facts v) (G : Facts w) (p g b : List ℕ) (with-g : allOwned v ≡ p ++ (g ++ b)) (with-none : allOwned w ≡ p ++ b) where
   freed : (x : ℕ) → x < sectors v → x < sectors w → isFree (sat w) x ≡ (isFree (sat v) x or among x g)
@@ -63,17 +75,22 @@ delete-frees v k s hk x h =
     (owned-was v v′ k (blanks 32) (tables v) C) (owned-now v v′ k (blanks 32) (tables v) C ∙ rw (owned-unused v′ (blanks 32) (zeros-blanks 32)))
     x h (omega (arith, sectors-kept v v′ k (blanks 32) (tables v) C))
 
--- allocate: exactly the run becomes owned
+-- allocate: what was free is still free, but for the run
 pub allocate-takes : {v : List ℕ} {at : ℕ} {d : List ℕ} {k n l s : ℕ} → Allocatable v at d k n l s → (x : ℕ) → x < sectors v
-    → isFree (sat v) x ≡ (isFree (sat (allocated at d k n l s v)) x or among x (range s (taken k n)))
+    → isFree (sat (allocated at d k n l s v)) x ≡ (isFree (sat v) x and not (among x (range s (taken k n))))
 allocate-takes {v} {at} {d} {k} {n} {l} {s} A x h =
     let v′ : List ℕ = allocated at d k n l s v in
     let e′ : List ℕ = entry (fields k d l s n) in
     let ws : List ℕ = range s (taken k n) ++ tables v in
     let C : Changed v v′ at e′ ws = allocate-changed A in
-    freed v′ v (facts v′ (allocate-sound A)) (facts v (A .is-sound)) (ahead v v′ at e′ ws C) (range s (taken k n)) (behind v v′ at e′ ws C)
-    (owned-now v v′ at e′ ws C ∙ rw (allocate-owned A)) (owned-was v v′ at e′ ws C ∙ rw (owned-unused v (entryAt v at) (A .slot-unused)))
-    x (omega (arith, sectors-kept v v′ at e′ ws C)) h
+    let p : List ℕ = ahead v v′ at e′ ws C in
+    let b : List ℕ = behind v v′ at e′ ws C in
+    let now-owned : allOwned v′ ≡ p ++ (range s (taken k n) ++ b) = owned-now v v′ at e′ ws C ∙ rw (allocate-owned A) in
+    let was-owned : allOwned v ≡ p ++ b = owned-was v v′ at e′ ws C ∙ rw (owned-unused v (entryAt v at) (A .slot-unused)) in
+    free-is v′ (facts v′ (allocate-sound A)) x (omega (arith, sectors-kept v v′ at e′ ws C))
+    ∙ rw now-owned (with-more p (range s (taken k n)) b x)
+    ∙ ap (λ (own : List ℕ). not (among x own) and not (among x (range s (taken k n)))) (sym was-owned)
+    ∙ ap (λ (c : Bool). c and not (among x (range s (taken k n)))) (sym (free-is v (facts v (A .is-sound)) x h))
 
 -- allocate: the entries below the lowest unused one are used
 pub lower-used : (v : List ℕ) (j : ℕ) → j < index unused (entries v) → unused (entryAt v j) ≡ false

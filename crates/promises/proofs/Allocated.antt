@@ -72,7 +72,7 @@ module _ (caller : ℕ) (desc : List ℕ) (k n l : ℕ) (s : State) (T : Allocat
     its-sectors = rw (its-entry, entry-start (fields k desc l x n) long) (allocate-owned A);
     were-free = rw (its-entry, entry-start (fields k desc l x n) long) was-free;
     lowest-start = λ y h. run-lowest (taken k n) v y (rw (its-entry, entry-start (fields k desc l x n) long) at h);
-    others-as-marked = λ y h. rw (its-entry, allocate-owned A) (allocate-takes A y h);
+    still-free = λ y h. rw (its-entry, allocate-owned A) (allocate-takes A y h);
     was-new = T .new-name;
     names-kept = allocate-names A;
     desk-kept = refl;

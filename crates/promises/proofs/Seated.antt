@@ -67,6 +67,7 @@ module _ (caller lun : ℕ) (desc : List ℕ) (mode : ℕ) (end : Bool) (s : Sta
     only-lun = only-put s lun _ lun-in (ready-fitting s (T .is-ready));
     is-held = refl;
     its-user = refl;
+    its-slot = refl;
     its-file = its-file;
     its-mode = refl;
     at-last = start-last (s .image) _ (modeOf mode) end;

@@ -5,7 +5,7 @@ use mathlib.Core.Bool.{true, false, not}
 use mathlib.Core.Logic.{_≢_}
 use Prim.Native.Nat.{ℕ, _+_, _-_, _*_, _<_}
 use lib.ListN.{length, take}
-use Rattle.lists.specs.Lists.{among, range, _or_}
+use Rattle.lists.specs.Lists.{among, range, _or_, _and_}
 use Rattle.lists.specs.Parts.{sectors, sector, blanks}
 use Rattle.volume.specs.Names.{descriptor}
 use Rattle.volume.specs.Volume.{system, sat}
@@ -55,8 +55,8 @@ pub record Allocates (s : State) (o : Outcome) (desc : List ℕ) (k n l j : ℕ)
   pub its-sectors : owned (o .image) (entryAt (o .image) j) ≡ range (start (entryAt (o .image) j)) (taken k n)
   pub were-free : runAt (sat (s .image)) (sectors (s .image)) (taken k n) (start (entryAt (o .image) j)) ≡ true
   pub lowest-start : (x : ℕ) → x < start (entryAt (o .image) j) → runAt (sat (s .image)) (sectors (s .image)) (taken k n) x ≡ false
-  pub others-as-marked : (x : ℕ) → x < sectors (s .image)
-      → isFree (sat (s .image)) x ≡ (isFree (sat (o .image)) x or among x (owned (o .image) (entryAt (o .image) j)))
+  pub still-free : (x : ℕ) → x < sectors (s .image)
+      → isFree (sat (o .image)) x ≡ (isFree (sat (s .image)) x and not (among x (owned (o .image) (entryAt (o .image) j))))
   pub was-new : exists (s .image) desc ≡ false
   pub names-kept : (d : List ℕ) → descriptor d ≡ true → d ≢ desc
       → (exists (o .image) d ≡ exists (s .image) d) × (slotOf (o .image) d ≡ slotOf (s .image) d)

@@ -10,6 +10,7 @@ use Rattle.luns.specs.declared.Lun.{Lun}
 use Rattle.luns.specs.declared.Place.the-variants.{Fresh, At}
 use Rattle.luns.specs.Luns.{freeLun, movedTo}
 use Rattle.luns.specs.Modes.{modeOf, writes}
+use Rattle.work.specs.Volumes.{slotOf}
 use Rattle.desk.specs.Desk.{State, lunAt}
 use Rattle.desk.specs.Answers.{Outcome}
 use Rattle.desk.specs.Calls.{step, Assign, Close, Rewind}
@@ -26,6 +27,7 @@ pub record Seats (s : State) (o : Outcome) (caller lun : ℕ) (desc : List ℕ) 
   pub only-lun : OnlyLun (s .desk) (o .desk) lun u
   pub is-held : u .held ≡ true
   pub its-user : u .user ≡ caller
+  pub its-slot : u .slot ≡ slotOf (s .image) desc
   pub its-file : described (entryAt (s .image) (u .slot)) ≡ desc
   pub its-mode : u .mode ≡ modeOf mode
   pub at-last : end ≡ true → writes (modeOf mode) ≡ true → 1 ≤ extent (s .image) (entryAt (s .image) (u .slot))
