@@ -1,4 +1,5 @@
 use mathlib.Core.Path.{sym, _∙_}
+use native.Mathlib.Omega.{arith}
 use borrow.Author.Needs.{needs}
 use borrow.Author.Tests.{le-leb, lt-leb}
 use Rattle.work.specs.Refusals.{ruled}
@@ -16,7 +17,9 @@ returns c = simp (sym (c .before .odd-length .ensures) ∙ c .if1 .taken)
 
 returns-2 : tie.Need-returns-2
 unfolding readRun doneBy ruled
-returns-2 c = simp (sym (c .before .before .odd-length .ensures) ∙ c .before .if1 .left, le-leb _ _ (c .if2 .taken))
+returns-2 c =
+    let a = c .before .before .before .before .before .args in
+    simp (sym (c .before .before .odd-length .ensures) ∙ c .before .if1 .left, le-leb (a .n) (a .i) (omega (arith, c .if2 .taken)))
 
 fewer-requires : tie.Need-fewer-requires
 fewer-requires c κs = search needs
