@@ -32,7 +32,7 @@ use Rattle.records.specs.Streams.{laidOut}
 use Rattle.ownership.specs.Blocks.{block, streamLength, placed}
 use Rattle.ownership.specs.Owners.{logical, owned, allOwned}
 use Rattle.ownership.proofs.OwnedRuns.{owned-unused}
-use Rattle.files.specs.Files.{stored, stream, tail, records, extent, tailSound, recordsSound, sound}
+use Rattle.files.specs.Files.{stored, stream, tail, records, tailSound, recordsSound, sound}
 use Rattle.files.specs.Changes.{taken, allocated}
 use Rattle.files.proofs.SoundFacts.{Facts, facts}
 use Rattle.files.proofs.FileSame.{clear}
@@ -140,10 +140,6 @@ module _ {v : List ℕ} {at : ℕ} {d : List ℕ} {k n l s : ℕ} (A : Allocatab
     unfolding stored laidOut
     run-stored = rw run-logical (sectors-part s n (allocated at d k n l s v) ∙ rw takes-n at allocate-blank)
 
-    pub run-extent : extent (allocated at d k n l s v) (entry (fields k d l s n)) ≡ n
-    unfolding extent
-    run-extent = rw (entry-contiguous (fields k d l s n), is-run, entry-size (fields k d l s n) long)
-
     run-owned : owned v′ e ≡ new
     unfolding owned v′ e new
     run-owned = rw (entry-used (fields k d l s n), entry-contiguous (fields k d l s n), is-run, run-logical, takes-n)
@@ -186,10 +182,6 @@ module _ {v : List ℕ} {at : ℕ} {d : List ℕ} {k n l s : ℕ} (A : Allocatab
     pub records-none : records (allocated at d k n l s v) (entry (fields k d l s n)) ≡ []
     unfolding records
     records-none = rw records-stream (none-in.records-none (recordLength (entry (fields k d l s n))))
-
-    pub records-extent : extent (allocated at d k n l s v) (entry (fields k d l s n)) ≡ 0
-    unfolding extent
-    records-extent = rw (entry-contiguous (fields k d l s n), c, records-none)
 
     records-owned : owned v′ e ≡ new
     unfolding owned v′ e new range

@@ -261,24 +261,8 @@ module _ (v : List ℕ) (F : Facts v) (k : ℕ) (hk : k < 8 * dirs v) (used : un
   pub appended-entry : entryAt (appended (entryAt v k) r v) k ≡ entryAt v k
   appended-entry = rw is-v′ (entry-here v v′ k e (ds ++ range (satAt v) 1) C)
 
-  pub appended-block : block (appended (entryAt v k) r v) (entryAt v k) ≡ grownBlock v (entryAt v k) r
-  appended-block = rw is-v′ block-now
-
-  pub appended-streamLength : streamLength (block (appended (entryAt v k) r v) (entryAt v k)) ≡ length (longer v (entryAt v k) r)
-  appended-streamLength = rw is-v′ length-now
-
-  pub appended-logical : logical (appended (entryAt v k) r v) (entryAt v k) ≡ logical v (entryAt v k) ++ newSectors v (entryAt v k) r
-  appended-logical = rw is-v′ logical-now
-
   pub appended-owned : owned (appended (entryAt v k) r v) (entryAt v k) ≡ owned v (entryAt v k) ++ newSectors v (entryAt v k) r
   appended-owned = rw is-v′ owned-is-now
 
-  pub appended-stream : stream (appended (entryAt v k) r v) (entryAt v k) ≡ longer v (entryAt v k) r
-  appended-stream = rw is-v′ stream-now
-
   pub records-appended : records (appended (entryAt v k) r v) (entryAt v k) ≡ records v (entryAt v k) ++ (r ∷ [])
   records-appended = rw is-v′ (unfold records in ap (recordsOf (recordLength e)) stream-now) ∙ whole-now .0
-
-  -- and of the SAT
-  pub appended-sat : sat (appended (entryAt v k) r v) ≡ withBits 1 (sat v) (newSectors v (entryAt v k) r)
-  appended-sat = rw is-v′ sat-now

@@ -211,18 +211,12 @@ module _ (id : List ℕ) (d t : ℕ) (hid : volumeId id ≡ true) (hr : inRange 
   pub format-sound : sound (formatted id d t) ≡ true
   format-sound = rw img-is (sound-is img point-1 point-2 point-3 point-4 point-5)
 
-  -- where it has its parts
+  -- its sectors, and those of the system
   pub format-sectors : sectors (formatted id d t) ≡ t
   format-sectors = rw img-is sectors-img
 
-  pub format-satAt : satAt (formatted id d t) ≡ 1
-  format-satAt = rw img-is satAt-img
-
-  pub format-dirAt : dirAt (formatted id d t) ≡ 2
-  format-dirAt = rw img-is dirAt-img
-
-  pub format-dirs : dirs (formatted id d t) ≡ d
-  format-dirs = rw img-is dirs-img
+  pub format-system : system (formatted id d t) ≡ systemOf (freshLayout t d)
+  format-system = rw img-is system-img
 
   pub format-length : length (formatted id d t) ≡ 256 * t
   format-length = rw img-is length-img

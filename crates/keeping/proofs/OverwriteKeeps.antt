@@ -16,14 +16,14 @@ use Rattle.lists.proofs.RangeParts.{among-range}
 use Rattle.lists.proofs.AreBytes.{Bytes}
 use Rattle.lists.proofs.Puts.{part-put-same, part-put-before, part-put-after}
 use Rattle.volume.specs.Directory.{start, entryAt, unused, contiguous, size}
-use Rattle.volume.specs.Volume.{satAt, dirs, sat}
+use Rattle.volume.specs.Volume.{satAt, dirs}
 use Rattle.volume.specs.Sat.{free}
 use Rattle.volume.proofs.ByteLists.{bytes-put}
 use Rattle.ownership.specs.Blocks.{placed}
 use Rattle.ownership.specs.Owners.{logical, owned}
 use Rattle.files.specs.Changes.{overwritten, sectorsAt}
 use Rattle.files.specs.Files.{tailSound, recordsSound, sound}
-use Rattle.files.proofs.OwnSectorsWritten.{Part, slot-placed, changed-within, sound-within, sat-within, free-within, sectors-within}
+use Rattle.files.proofs.OwnSectorsWritten.{Part, slot-placed, changed-within, sound-within, free-within, sectors-within}
 use Rattle.files.proofs.SoundFacts.{Facts}
 use Rattle.files.proofs.OneFileChanged.{Changed, entry-here}
 
@@ -78,10 +78,6 @@ module _ (v : List ℕ) (F : Facts v) (k : ℕ) (hk : k < 8 * dirs v) (used : un
   unfolding ds e v′
   overwritten-changed = changed-within v F k hk ds v′ overwritten-keeps mine
 
-  pub overwritten-sat : sat (overwritten (entryAt v k) i bs v) ≡ sat v
-  unfolding ds e v′
-  overwritten-sat = sat-within v F k hk ds v′ overwritten-keeps mine
-
   pub overwritten-free : free (overwritten (entryAt v k) i bs v) ≡ free v
   unfolding ds e v′
   overwritten-free = free-within v F k hk ds v′ overwritten-keeps mine
@@ -89,10 +85,6 @@ module _ (v : List ℕ) (F : Facts v) (k : ℕ) (hk : k < 8 * dirs v) (used : un
   pub overwritten-entry : entryAt (overwritten (entryAt v k) i bs v) k ≡ entryAt v k
   unfolding ds e v′
   overwritten-entry = entry-here v v′ k e (ds ++ range (satAt v) 1) overwritten-changed
-
-  pub overwritten-logical : logical (overwritten (entryAt v k) i bs v) (entryAt v k) ≡ logical v (entryAt v k)
-  unfolding logical
-  overwritten-logical = rw runs
 
   placed-is : placed v′ e ≡ true
   unfolding placed v′ e ds

@@ -64,6 +64,7 @@ refusal-keeps c s r e =
     let f = refused-first c s r e in
     let q : step c s ≡ refusal c s r = step-first c s (f .0) r (f .1) in
     record {
+      its-number = ap (λ (o : Outcome). status (o .answer)) q;
       length-0 = ap (λ (o : Outcome). moved (o .answer)) q;
       image-kept = ap (λ (o : Outcome). o .image) q;
       desk-kept = ap (λ (o : Outcome). o .desk) q;

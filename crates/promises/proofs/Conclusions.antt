@@ -67,11 +67,11 @@ sat-byte : List ℕ → ℕ
 sat-byte img = getD img 256 0
 
 byte-1 : sat-byte (reached 1 .image) ≡ 0xE0
-unfolding sat-byte reached calls story blank desc next run service-open
+unfolding sat-byte reached story blank desc next run service-open
 byte-1 = refl
 
 byte-2 : sat-byte (step (Allocate 5 (desc 88) 0 3 0) (reached 1) .image) ≡ 0xFC
-unfolding sat-byte reached calls story blank desc next run service-open
+unfolding sat-byte reached story blank desc next run service-open
 byte-2 = refl
 
 pub not-unchanged : NotUnchanged
@@ -101,7 +101,7 @@ record AtStep6 : Type 0 where
   byte-is : sat-byte (step step-6 (reached 6) .image) ≡ 0xF3
 
 found : AtStep6
-unfolding sat-byte reached calls story blank desc next run step-6 service-open
+unfolding sat-byte reached story blank desc next run step-6 service-open
 found = record { is-done = refl; sequential = refl; one-record = refl; block-at = refl; long = refl; byte-was = refl; byte-is = refl }
 
 pub not-only-E : NotOnlyE

@@ -10,30 +10,30 @@ use Rattle.lists.specs.Lists.{index, if_then_else_}
 use Rattle.lists.proofs.Tests.{zeros-blanks}
 use Rattle.lists.proofs.Ranges.{length-range}
 use Rattle.volume.specs.Volume.{dirs}
-use Rattle.volume.specs.Directory.{entries, entryAt, unused, contiguous, named, recordLength}
+use Rattle.volume.specs.Directory.{entries, entryAt, unused, contiguous, recordLength}
 use Rattle.volume.specs.Sat.{free, lowestRun}
 use Rattle.ownership.specs.Owners.{owned}
 use Rattle.files.specs.Files.{sound}
 use Rattle.files.specs.Changes.{taken, needed, overwritten, deleted}
 use Rattle.files.proofs.SoundFacts.{facts}
-use Rattle.files.proofs.UsedSlots.{named-used}
 use Rattle.keeping.proofs.AllocateKeeps.{allocate-changed, allocate-sound, allocate-owned}
 use Rattle.keeping.proofs.DeleteKeeps.{delete-changed, delete-sound}
 use Rattle.keeping.proofs.OverwriteKeeps.{overwritten-free}
 use Rattle.keeping.proofs.FreeCounts.{changed-free, unused-count, run-count, records-count, appended-free, encoded-count, needed-count}
-use Rattle.keeping.proofs.SlotFound.{slot-holds}
-use Rattle.work.specs.Volumes.{exists, slotOf, newFile}
+use Rattle.work.specs.Volumes.{slotOf, newFile}
 use Rattle.work.specs.Transfers.{written, writing, updating, reading, moving}
 use Rattle.desk.specs.Desk.{State, fileOf, aimed}
 use Rattle.desk.specs.Answers.{Outcome}
 use Rattle.desk.specs.Calls.{Call, Format, Check, Allocate, Assign, Close, Rewind, Delete, Read, Write, Update, quietly, transferred, checked, done}
 use Rattle.promises.specs.Sectors.{Bytes}
-use Rattle.promises.specs.Contents.{slotHeld, NoFormat}
+use Rattle.promises.specs.Contents.{slotHeld}
+use Rattle.promises.specs.Answers.{NoFormat}
 use Rattle.promises.specs.Counts.{sectorsHeld, growth, trade, FreeCount}
 use Rattle.promises.proofs.Passing.{Accepted, accepted}
 use Rattle.promises.proofs.Told.{AllocateTold, allocate-told, DeleteTold, delete-told, WriteTold, write-told, update-told}
 use Rattle.promises.proofs.Held.{entryOf, ready-sound}
-use Rattle.promises.proofs.Filing.{can-allocate, slot-there}
+use Rattle.promises.proofs.Filing.{can-allocate}
+use Rattle.promises.proofs.NamedFile.{file-there, file-used}
 use Rattle.promises.proofs.Appending.{Appending, appending}
 use Rattle.promises.proofs.Overwriting.{Overwriting, overwriting}
 use Rattle.promises.proofs.Updating.{update-free}
@@ -59,20 +59,15 @@ held-count v h k l u = go (contiguous (entryAt v k)) refl
     go true q = rw q (run-count v (entryAt v k) u q)
     go false q = rw q (records-count v (facts v h) k l u q)
 
-found-used : (caller : ℕ) (desc : List ℕ) (s : State) → DeleteTold s caller desc → unused (entryAt (s .image) (slotOf (s .image) desc)) ≡ false
-unfolding slotOf exists
-found-used caller desc s T =
-    named-used desc (entryAt (s .image) (slotOf (s .image) desc)) (T .named-file .described) (slot-holds (s .image) (named desc) (T .named-file .found))
-
 free-delete : (caller : ℕ) (desc : List ℕ) (s : State) → DeleteTold s caller desc
     → free (deleted (slotOf (s .image) desc) (s .image)) ≡ free (s .image) + sectorsHeld (s .image) (entryAt (s .image) (slotOf (s .image) desc))
 free-delete caller desc s T =
     let v : List ℕ = s .image in
     let k : ℕ = slotOf v desc in
     let h = ready-sound s (T .is-ready) in
-    let l = slot-there caller desc s T in
+    let l = file-there (T .named-file) in
     let c = changed-free v _ k _ _ (delete-changed v k h l) (facts v h) (delete-sound v k h l) in
-    omega (arith, c, unused-count (deleted k v) (blanks 32) (zeros-blanks 32), held-count v h k l (found-used caller desc s T))
+    omega (arith, c, unused-count (deleted k v) (blanks 32) (zeros-blanks 32), held-count v h k l (file-used (T .named-file)))
 
 -- Write: an append takes the sectors that it needs
 module _ (caller lun sel num : ℕ) (bs : List ℕ) (s : State) (T : WriteTold s caller lun sel num bs) where
@@ -109,7 +104,7 @@ module _ (caller lun sel num : ℕ) (bs : List ℕ) (s : State) (T : WriteTold s
           rw (q, written-records e i bs v q, sym (needs q)) (omega (arith, f))
 
 counted : (c : Call) (s : State) → Bytes (s .image) → NoFormat c → Accepted c s → free (done c s .image) + trade c s .takes ≡ free (s .image) + trade c s .gives
-unfolding done quietly checked transferred trade fileOf reading writing updating moving taken
+unfolding done quietly checked transferred trade fileOf reading writing updating moving
 counted (Format id n) s b h a = absurd (h id n refl)
 counted Check s b h a = refl
 counted (Allocate caller desc k n l) s b h a = free-allocate caller desc k n l s (allocate-told caller desc k n l s a) ∙ omega arith

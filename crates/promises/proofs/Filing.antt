@@ -2,16 +2,16 @@
 use mathlib.Core.Path.{_≡_, refl, ap, sym, _∙_}
 use mathlib.Core.Bool.{true, true≢false, false, not}
 use mathlib.Core.List.{List}
-use Prim.Native.Nat.{ℕ, _*_, _<_}
+use Prim.Native.Nat.{ℕ}
 use borrow.Author.Tests.{eq-eqb, not-true}
 use Rattle.lists.specs.Parts.{sectors}
 use Rattle.lists.specs.Lists.{index, all}
 use Rattle.lists.proofs.Tests.{both-true}
 use Rattle.lists.proofs.IndexFound.{none-all}
 use Rattle.volume.specs.Names.{volumeId}
-use Rattle.volume.specs.Volume.{inRange, dirs}
+use Rattle.volume.specs.Volume.{inRange}
 use Rattle.volume.specs.Formatted.{formatted}
-use Rattle.volume.specs.Directory.{entries, entryAt, unused, named}
+use Rattle.volume.specs.Directory.{entries, entryAt, unused}
 use Rattle.volume.specs.Sat.{lowestRun}
 use Rattle.files.specs.Files.{sound}
 use Rattle.files.specs.Changes.{taken, deleted}
@@ -23,7 +23,6 @@ use Rattle.luns.specs.declared.Lun.{Lun}
 use Rattle.luns.specs.Luns.{holdsSlot, isHeld}
 use Rattle.luns.proofs.Fitting.{fits-is}
 use Rattle.work.specs.Volumes.{exists, sized, newFile, slotOf}
-use Rattle.keeping.proofs.SlotFound.{slot-in}
 use Rattle.desk.specs.Desk.{state, emptyDesk, State}
 use Rattle.desk.specs.Calls.{Everything, Nothing, OneFile}
 use Rattle.desk.proofs.DeskFitting.{empty-fitting}
@@ -31,7 +30,8 @@ use Rattle.promises.specs.Sectors.{Bytes, Good}
 use Rattle.promises.specs.Touches.{changes, ends}
 use Rattle.promises.proofs.Held.{changed-fitting, any-lun, ready-sound, ready-fitting}
 use Rattle.promises.proofs.Told.{FormatTold, AllocateTold, DeleteTold}
-use Rattle.promises.proofs.Preserving.{Preserves, preserves-change}
+use Rattle.promises.proofs.NamedFile.{file-there}
+use Rattle.promises.proofs.Preserving.{remakes, Preserves, preserves-change}
 
 -- Format: nothing is kept, but what it leaves is good
 pub good-formatted : (id : List ℕ) (d t : ℕ) → volumeId id ≡ true → inRange t d ≡ true → Bytes id → Good (state (formatted id d t) emptyDesk)
@@ -41,11 +41,11 @@ good-formatted id d t hi hr b = record {
 }
 
 pub preserves-format : (id : List ℕ) (n : ℕ) (s : State) → FormatTold s id n → Preserves id Everything s (state (formatted id n (sectors (s .image))) emptyDesk)
-unfolding changes ends
+unfolding changes ends remakes
 preserves-format id n s T = record {
   sound-after = λ b h. good-formatted id n (sectors (s .image)) (T .good-id) (T .in-range) b .volume;
   good-after = λ b h. good-formatted id n (sectors (s .image)) (T .good-id) (T .in-range) b;
-  frame = λ h. absurd (h refl);
+  frame = λ h. absurd (true≢false h);
   others = λ k f h. absurd (true≢false h);
   units = λ k i f l h. absurd (true≢false h);
 }
@@ -91,10 +91,6 @@ module _ (caller : ℕ) (desc : List ℕ) (s : State) (T : DeleteTold s caller d
   abbrev at : ℕ
   at = slotOf v desc
 
-  pub slot-there : slotOf (s .image) desc < 8 * dirs (s .image)
-  unfolding slotOf exists
-  slot-there = slot-in v (named desc) (T .named-file .found)
-
   is-sound : sound v ≡ true
   is-sound = ready-sound s (T .is-ready)
 
@@ -104,8 +100,8 @@ module _ (caller : ℕ) (desc : List ℕ) (s : State) (T : DeleteTold s caller d
 
   good-deleted : Bytes v → Good (state (deleted at v) (s .desk))
   good-deleted bi = record {
-    volume = record { is-sound = delete-sound v at is-sound slot-there; is-bytes = delete-bytes v at is-sound slot-there bi };
-    is-fitting = fits-is _ _ (changed-fitting v _ at _ _ (delete-changed v at is-sound slot-there) (s .desk .luns) (λ u. not (holdsSlot at u)) nobody
+    volume = record { is-sound = delete-sound v at is-sound (file-there (T .named-file)); is-bytes = delete-bytes v at is-sound (file-there (T .named-file)) bi };
+    is-fitting = fits-is _ _ (changed-fitting v _ at _ _ (delete-changed v at is-sound (file-there (T .named-file))) (s .desk .luns) (λ u. not (holdsSlot at u)) nobody
         (λ u h c o q. absurd (true≢false (sym (holds-it at u h q) ∙ not-true _ c)))
         (ready-fitting s (T .is-ready)));
   }
@@ -113,6 +109,6 @@ module _ (caller : ℕ) (desc : List ℕ) (s : State) (T : DeleteTold s caller d
   pub preserves-delete : Bytes (s .image) → Preserves desc (OneFile (slotOf (s .image) desc)) s (state (deleted (slotOf (s .image) desc) (s .image)) (s .desk))
   unfolding changes ends
   preserves-delete bi =
-      preserves-change s (state (deleted at v) (s .desk)) at _ _ (delete-changed v at is-sound slot-there) desc (OneFile at) (λ b. good-deleted bi)
+      preserves-change s (state (deleted at v) (s .desk)) at _ _ (delete-changed v at is-sound (file-there (T .named-file))) desc (OneFile at) (λ b. good-deleted bi)
       (λ j f h p. true≢false (sym (eq-eqb at j (sym p)) ∙ h))
       (λ i f x h. absurd (true≢false (sym (eq-eqb at at refl) ∙ h)))

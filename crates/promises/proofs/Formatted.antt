@@ -5,11 +5,11 @@ use mathlib.Core.List.{List}
 use Prim.Native.Nat.{ℕ, _<_}
 use Rattle.lists.specs.Parts.{sectors}
 use Rattle.lists.specs.Lists.{among}
-use Rattle.volume.specs.Volume.{sat, system, systemOf, layoutOf}
-use Rattle.volume.specs.Formatted.{formatted, freshLayout}
+use Rattle.volume.specs.Volume.{sat, system, systemOf}
+use Rattle.volume.specs.Formatted.{formatted}
 use Rattle.volume.specs.Sat.{isFree}
 use Rattle.files.proofs.SoundFacts.{facts}
-use Rattle.keeping.proofs.FormatSound.{format-sectors, format-satAt, format-dirAt, format-dirs, format-length, format-unused, format-owned, format-id, format-sound}
+use Rattle.keeping.proofs.FormatSound.{format-sectors, format-system, format-length, format-unused, format-owned, format-id, format-sound}
 use Rattle.keeping.proofs.FreeCounts.{format-free}
 use Rattle.keeping.proofs.FreedSectors.{free-is}
 use Rattle.desk.specs.Desk.{State}
@@ -25,20 +25,10 @@ module _ (id : List ℕ) (n : ℕ) (s : State) (T : FormatTold s id n) where
   abbrev v′ : List ℕ
   v′ = formatted id n t
 
-  system-is : system v′ ≡ systemOf (freshLayout t n)
-  unfolding system layoutOf
-  system-is =
-      rw (
-        format-sectors id n t (T .good-id) (T .in-range),
-        format-satAt id n t (T .good-id) (T .in-range),
-        format-dirAt id n t (T .good-id) (T .in-range),
-        format-dirs id n t (T .good-id) (T .in-range),
-      )
-
   others-free : (x : ℕ) → x < t → isFree (sat v′) x ≡ not (among x (system v′))
   others-free x l =
       free-is v′ (facts v′ (format-sound id n t (T .good-id) (T .in-range))) x (rw (format-sectors id n t (T .good-id) (T .in-range)) l)
-      ∙ ap (λ (ss : List ℕ). not (among x ss)) (format-owned id n t (T .good-id) (T .in-range) ∙ sym system-is)
+      ∙ ap (λ (ss : List ℕ). not (among x ss)) (format-owned id n t (T .good-id) (T .in-range) ∙ sym (format-system id n t (T .good-id) (T .in-range)))
 
   formats : Formats s (carried (Format id n) s) id n
   unfolding done quietly systemOf
@@ -48,7 +38,7 @@ module _ (id : List ℕ) (n : ℕ) (s : State) (T : FormatTold s id n) where
     as-long = format-length id n t (T .good-id) (T .in-range) ∙ sym (T .whole-sectors);
     has-id = format-id id n t (T .good-id) (T .in-range);
     no-file = format-unused id n t (T .good-id) (T .in-range);
-    its-system = system-is;
+    its-system = format-system id n t (T .good-id) (T .in-range);
     others-free = others-free;
     free-count = format-free id n t (T .good-id) (T .in-range);
     desk-empty = refl;

@@ -1,4 +1,4 @@
--- What a good state says of the file behind a LUN that a caller holds; and the LUNs over a changed volume.
+-- What a ready state says of the file behind a LUN that a caller holds; and the LUNs over a changed volume.
 use mathlib.Core.List.{List, [], _∷_}
 use mathlib.Core.Path.{_≡_, refl, ap, sym, _∙_}
 use mathlib.Core.Bool.{true, Bool}

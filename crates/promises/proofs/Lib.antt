@@ -1,6 +1,7 @@
 pub mod Passing
 pub mod Answers
 pub mod Told
+pub mod NamedFile
 pub mod Names
 pub mod Units
 pub mod PlacesExist

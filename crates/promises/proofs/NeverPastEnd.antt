@@ -15,6 +15,7 @@ use Rattle.desk.specs.Desk.{State, aimed, fileOf}
 use Rattle.desk.specs.Calls.{Read, rules, openRules, beginRules}
 use Rattle.promises.specs.Lasting.{Lasting, NeverPastEnd}
 use Rattle.promises.specs.Answers.{First}
+use Rattle.promises.proofs.Passing.{first-later}
 use Rattle.promises.proofs.Answers.{refused-first}
 use Rattle.promises.proofs.Held.{entryOf}
 use Rattle.promises.proofs.Lasting.{lasts-through}
@@ -28,13 +29,7 @@ never : (r : Refusal) (rs : List Rule) (k : ℕ) → Never r rs → First rs k r
 unfolding Never
 never r [] k n f = let h : k < 0 = f .inside in omega arith
 never r (x ∷ xs) zero n f = true≢false (sym (f .applies) ∙ n .0 (ap code (f .is-rule)))
-never r (x ∷ xs) (suc k) n f =
-    never r xs k (n .1) (record {
-      inside = omega (arith, f .inside);
-      is-rule = f .is-rule;
-      applies = f .applies;
-      none-earlier = λ j h. f .none-earlier (suc j) (omega arith);
-    })
+never r (x ∷ xs) (suc k) n f = never r xs k (n .1) (first-later x xs k r f)
 
 not-past : (t : State) (caller lun sel num : ℕ) (buf : List ℕ) → aimed t lun sel num < extent (t .image) (fileOf t lun)
     → Never PastEnd (rules (Read caller lun sel num buf) t)

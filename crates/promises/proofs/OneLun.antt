@@ -1,13 +1,18 @@
 -- One LUN put: it is what was put, and the others are as they were.
+use mathlib.Core.Path.{_≡_, sym}
 use Prim.Native.Nat.{ℕ, _<_}
 use native.Mathlib.Omega.{arith}
 use lib.Seq.{getD-set-same, getD-set-other}
 use Rattle.numbers.specs.Numbers.{lunCount}
 use Rattle.luns.specs.declared.Lun.{Lun}
-use Rattle.luns.specs.Luns.{freeLun}
+use Rattle.luns.specs.declared.Place.the-variants.{At}
+use Rattle.luns.specs.Luns.{freeLun, movedTo}
 use Rattle.luns.proofs.Fitting.{Fitting}
+use Rattle.work.specs.Transfers.{Moving}
 use Rattle.desk.specs.Desk.{State, lunAt, putLun}
+use Rattle.desk.specs.Calls.{after}
 use Rattle.promises.specs.Contents.{OnlyLun}
+use Rattle.promises.proofs.Held.{Held}
 
 pub only-put : (s : State) (lun : ℕ) (u : Lun) → lun < lunCount → Fitting (s .image) (s .desk .luns) → OnlyLun (s .desk) (putLun (s .desk) lun u) lun u
 unfolding lunAt putLun
@@ -15,3 +20,9 @@ only-put s lun u l f = record {
   this-lun = getD-set-same (s .desk .luns) lun u freeLun (omega (arith, l, f .sixteen));
   other-luns = λ j n. getD-set-other (s .desk .luns) lun j u freeLun n;
 }
+
+-- a transfer: its LUN moves, to n units
+pub only-moved : (s : State) (lun : ℕ) (m : Moving) (n : ℕ) → m .count ≡ n → Held s lun
+    → OnlyLun (s .desk) (after (s .desk) lun m) lun (movedTo (At (m .from) n) (lunAt (s .desk) lun))
+unfolding after
+only-moved s lun m n p H = rw (sym p) (only-put s lun _ (H .lun-in) (H .fits-of))

@@ -17,16 +17,25 @@ use Rattle.desk.specs.Calls.{Call, given, done, rules, step}
 use Rattle.promises.specs.Answers.{First}
 use Rattle.promises.specs.Runs.{next}
 
--- one or the other
+-- the first rule that applies, one place further on; and one place nearer
 earlier : (x : Rule) (rs : List Rule) (k : ℕ) → x .holds ≡ false → ((j : ℕ) → j < k → getD rs j (NotSound if false) .holds ≡ false)
     → (j : ℕ) → j < suc k → getD (x ∷ rs) j (NotSound if false) .holds ≡ false
 earlier x rs k p f zero h = p
 earlier x rs k p f (suc j) h = f j (omega arith)
 
--- What a refused call leaves, what a call that is carried out leaves, and the state after that
+pub first-later : (x : Rule) (rs : List Rule) (k : ℕ) (r : Refusal) → First (x ∷ rs) (suc k) r → First rs k r
+first-later x rs k r f = record {
+  inside = omega (arith, f .inside);
+  is-rule = f .is-rule;
+  applies = f .applies;
+  none-earlier = λ j h. f .none-earlier (suc j) (omega arith);
+}
+
+-- What a refused call leaves
 abbrev pub refusal : Call → State → Refusal → Outcome
 refusal c s r = outcome (Refused r) (s .image) (s .desk) (given c)
 
+-- one or the other
 pub refuses-or-passes : (rs : List Rule) → ((r : Refusal) × (k : ℕ) × First rs k r) ⊎ (Passes rs)
 refuses-or-passes [] = inr tt
 refuses-or-passes (x ∷ rs) = go (x .holds) refl (refuses-or-passes rs)
@@ -54,19 +63,14 @@ module _ {A : Type 0} (refuse : Refusal → A) (pass : A) where
   ruled-first [] k r f = absurd (let h : k < 0 = f .inside in omega arith)
   ruled-first (x ∷ rs) zero r f = rw (f .applies, f .is-rule)
   ruled-first (x ∷ rs) (suc k) r f =
-      rw (f .none-earlier 0 (omega arith))
-      (ruled-first rs k r (record {
-        inside = omega (arith, f .inside);
-        is-rule = f .is-rule;
-        applies = f .applies;
-        none-earlier = λ j h. f .none-earlier (suc j) (omega arith);
-      }))
+      rw (f .none-earlier 0 (omega arith)) (ruled-first rs k r (first-later x rs k r f))
 
   pub ruled-passes : (rs : List Rule) → Passes rs → ruled rs refuse pass ≡ pass
   unfolding ruled
   ruled-passes [] p = refl
   ruled-passes (x ∷ rs) p = rw (p .0) (ruled-passes rs (p .1))
 
+-- What a call that is carried out leaves, and the state after that
 abbrev pub carried : Call → State → Outcome
 carried c s = outcome (Done (done c s .report)) (done c s .image) (done c s .desk) (done c s .buffer)
 

@@ -1,20 +1,20 @@
 -- The one table over the calls: an accepted call keeps a good state good and touches no more than it says. What follows of any call, and
 -- over runs.
 use mathlib.Core.List.{List, [], _∷_}
-use mathlib.Core.Bool.{Bool, true, false, true≢false}
+use mathlib.Core.Bool.{false}
 use mathlib.Core.Logic.{⊎-elim}
-use mathlib.Core.Path.{_≡_, refl, ap, sym, _∙_}
+use mathlib.Core.Path.{_≡_, refl, sym}
 use Prim.Native.Nat.{ℕ}
 use borrow.Author.Tests.{ne-eqb}
 use Rattle.lists.specs.Parts.{sectors}
 use Rattle.desk.specs.Desk.{State}
 use Rattle.desk.specs.Calls.{Touch, Call, Format, Check, Allocate, Assign, Close, Rewind, Delete, Read, Write, Update, quietly, transferred, checked, done, sent, touch, step}
-use Rattle.desk.specs.Calls.{Nothing, OneFile, Units, WhereFilesLie, Everything}
 use Rattle.promises.specs.Sectors.{Good, Sound, Accepts, Bytes, AllBytes, VisitBytes, StaysGood, StaysSound}
 use Rattle.promises.specs.Runs.{next, run, Visit, found, through, visits, RunsAreVisits}
-use Rattle.promises.specs.Contents.{OtherFilesKept, OthersKept, NoFormat, FrameKept, slotHeld}
+use Rattle.promises.specs.Contents.{OtherFilesKept, OthersKept, FrameKept, slotHeld}
+use Rattle.promises.specs.Answers.{NoFormat}
 use Rattle.promises.specs.Touches.{changes}
-use Rattle.promises.proofs.Preserving.{Preserves, preserves-desk}
+use Rattle.promises.proofs.Preserving.{remakes, Preserves, preserves-desk}
 use Rattle.promises.proofs.Passing.{Accepted, accepted, carriedTo, refused-or-accepted, next-refused, next-accepted}
 use Rattle.promises.proofs.Told.{format-told, allocate-told, assign-told, rewind-told, delete-told, read-told, write-told, update-told}
 use Rattle.promises.proofs.Filing.{preserves-format, preserves-allocate, preserves-delete, good-formatted}
@@ -61,13 +61,6 @@ others-kept s b caller lun sel num bs k f n =
     (other-files-kept s b (Write caller lun sel num bs) k f h, other-files-kept s b (Update caller lun sel num bs) k f h)
 
 -- only format touches everything
-remakes : Touch → Bool
-remakes Nothing = false
-remakes (OneFile k) = false
-remakes (Units k i n) = false
-remakes WhereFilesLie = false
-remakes Everything = true
-
 touches-less : (c : Call) (s : State) → NoFormat c → remakes (touch c s) ≡ false
 unfolding touch remakes
 touches-less (Format id n) s h = absurd (h id n refl)
@@ -82,8 +75,8 @@ touches-less (Write caller lun sel num bs) s h = refl
 touches-less (Update caller lun sel num bs) s h = refl
 
 pub frame-kept : FrameKept
-unfolding next remakes
-frame-kept s b c n = preserves-next c s b .frame (λ e. true≢false (sym (ap remakes e) ∙ touches-less c s n))
+unfolding next
+frame-kept s b c n = preserves-next c s b .frame (touches-less c s n)
 
 -- a sound volume with any desk, and a good state
 pub sound-next : (c : Call) (s : State) → Sound (s .image) → Bytes (sent c) → Sound (step c s .image)

@@ -1,6 +1,6 @@
 -- What every call keeps, in one record; and that a call keeps it which changes the desk alone, one file, or units of one file.
 use mathlib.Core.Path.{_≡_, refl, sym, subst, _∙_}
-use mathlib.Core.Bool.{false, true, true≢false}
+use mathlib.Core.Bool.{Bool, false, true, true≢false}
 use mathlib.Core.List.{List}
 use mathlib.Core.Logic.{_≢_, _⊎_, inl, inr}
 use Prim.Native.Nat.{ℕ, _<_, _+_, _≤_}
@@ -18,7 +18,7 @@ use Rattle.luns.specs.Luns.{placeExists, movedTo}
 use Rattle.luns.proofs.Fitting.{Fitting, fits-is}
 use Rattle.work.specs.Transfers.{Moving}
 use Rattle.desk.specs.Desk.{State, state, lunAt, putLun}
-use Rattle.desk.specs.Calls.{Touch, after, Units, Everything}
+use Rattle.desk.specs.Calls.{Touch, after, Nothing, OneFile, Units, WhereFilesLie, Everything}
 use Rattle.desk.specs.declared.Desk.{Desk}
 use Rattle.desk.proofs.DeskFitting.{moved-fitting}
 use Rattle.promises.specs.Touches.{changes, ends}
@@ -28,6 +28,14 @@ use Rattle.promises.specs.Contents.{unitOf, slotHeld, SameFile, SameFram
 use Rattle.promises.proofs.Units.{same-file, same-frame, lasting-image, lasting-same, lasting-by}
 use Rattle.promises.proofs.Held.{entryOf, Held, grown-fitting}
 
+-- a touch of everything
+unfoldable pub remakes : Touch → Bool
+remakes Nothing = false
+remakes (OneFile k) = false
+remakes (Units k i n) = false
+remakes WhereFilesLie = false
+remakes Everything = true
+
 -- From s to t, by a call that was sent bs and touches w: a sound volume stays sound, a good state good, files outside w are the same, units
 -- outside w hold what they held, and unless w is everything the frame stays
 pub record Preserves (bs : List ℕ) (w : Touch) (s t : State) : Type 0 where
@@ -35,7 +43,7 @@ pub record Preserves (bs : List ℕ) (w : Touch) (s t : State) : Type 0 where
   pub good-after : Bytes bs → Good s → Good t
   pub others : (k : ℕ) → File (s .image) k → changes w k ≡ false → SameFile (s .image) (t .image) k
   pub units : (k i : ℕ) → File (s .image) k → i < extent (s .image) (entryAt (s .image) k) → ends w k i ≡ false → Lasting (s .image) (t .image) k i
-  pub frame : w ≢ Everything → SameFrame (s .image) (t .image)
+  pub frame : remakes w ≡ false → SameFrame (s .image) (t .image)
 
 -- the image stays
 pub preserves-desk : (bs : List ℕ) (w : Touch) (s : State) (d : Desk) → (Good s → Good (state (s .image) d)) → Preserves bs w s (state (s .image) d)

@@ -14,19 +14,19 @@ use Rattle.files.specs.Changes.{sectorsAt}
 use Rattle.files.specs.Files.{recordAt, extent}
 use Rattle.keeping.proofs.OverwriteKeeps.{run-inside}
 use Rattle.luns.specs.declared.Place.the-variants.{At}
-use Rattle.luns.specs.Luns.{placeExists, movedTo}
+use Rattle.luns.specs.Luns.{placeExists}
 use Rattle.work.specs.Transfers.{Moving, readable, dataAt, units, moving, reading}
-use Rattle.desk.specs.Desk.{State, fileOf, aimed, lunAt}
+use Rattle.desk.specs.Desk.{State, fileOf, aimed}
 use Rattle.desk.specs.Calls.{Nothing, after, Read, transferred, done}
 use Rattle.desk.proofs.DeskFitting.{moved-fitting}
-use Rattle.promises.specs.Contents.{slotHeld, OnlyLun, least, HandedOver, AcceptedRead}
+use Rattle.promises.specs.Contents.{slotHeld, least, HandedOver, AcceptedRead}
 use Rattle.promises.proofs.Told.{ReadTold, read-told}
 use Rattle.promises.proofs.Units.{extent-run, sector-of, unit-record, unit-sector}
 use Rattle.promises.proofs.PlacesExist.{place-run, place-one, units-run, units-one, sectored}
 use Rattle.promises.proofs.Held.{entryOf, Held, held-by}
 use Rattle.promises.proofs.Preserving.{Preserves, preserves-desk, good-desk, transferredTo}
 use Rattle.promises.proofs.Passing.{accepted, carried}
-use Rattle.promises.proofs.OneLun.{only-put}
+use Rattle.promises.proofs.OneLun.{only-moved}
 
 length-sectorsAt : (v e : List ℕ) (i n : ℕ) → 256 * (start e + i) + 256 * n ≤ length v → length (sectorsAt e i n v) ≡ 256 * n
 unfolding sectorsAt part
@@ -50,7 +50,7 @@ readable-is e i m l o = go (leb (i + m / 256) (size e)) refl
         let h : size e < i + m / 256 = leb-false _ _ q in
         rw q (record { at-least = omega arith; at-most = omega arith; inside = omega arith })
 
--- "as many sectors as the buffer holds, or up to the end"
+-- as many sectors as the buffer has room for, or fewer if the end comes first
 readable-least : (v e : List ℕ) (i m : ℕ) → contiguous e ≡ true → i < extent v e → readable e i m ≡ least (m / 256) (extent v e - i)
 unfolding readable
 readable-least v e i m q l = go (leb (i + m / 256) (size e)) refl
@@ -141,10 +141,6 @@ module _ (caller lun sel num : ℕ) (buf : List ℕ) (s : State) (T : ReadTold s
       go true q = omega (arith, run-length q, run-readable q .at-most)
       go false q = rw (data-record v e i (length buf) q) (T .holds-it q)
 
-  moves : (n : ℕ) → units e (length bs) ≡ n → OnlyLun (s .desk) (after (s .desk) lun readAt) lun (movedTo (At i n) (lunAt (s .desk) lun))
-  unfolding after reading moving fileOf
-  moves n p = rw (sym p) (only-put s lun (movedTo (At i (units e (length bs))) (lunAt (s .desk) lun)) (H .lun-in) (H .fits-of))
-
   hands-over : HandedOver s (carried (Read caller lun sel num buf) s) lun (aimed s lun sel num) buf
       (dataAt (s .image) (entryOf s lun) (aimed s lun sel num) (length buf))
   unfolding fileOf done transferred reading moving
@@ -153,10 +149,10 @@ module _ (caller lun sel num : ℕ) (buf : List ℕ) (s : State) (T : ReadTold s
     image-kept = refl;
     room = fits-in;
     buffer-has = refl;
-    one-record = λ q. (data-record v e i (length buf) q ∙ sym (unit-record v e i q), moves 1 (units-one e (length bs) q));
+    one-record = λ q. (data-record v e i (length buf) q ∙ sym (unit-record v e i q), only-moved s lun readAt 1 (units-one e (length bs) q) H);
     how-many = λ q. run-length q ∙ ap (λ (m : ℕ). 256 * m) (readable-least v e i (length buf) q there);
     each-sector = λ q j l. sector-read q j l ∙ sym (unit-sector v e (i + j) q);
-    sectors-moved = λ q. moves (length bs / 256) (units-run e (length bs) q);
+    sectors-moved = λ q. only-moved s lun readAt (length bs / 256) (units-run e (length bs) q) H;
   }
 
 pub accepted-read : AcceptedRead

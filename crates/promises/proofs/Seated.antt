@@ -25,7 +25,7 @@ use Rattle.promises.proofs.Passing.{accepted, carried}
 use Rattle.promises.proofs.Told.{BeginTold, AssignTold, assign-told, close-told, rewind-told}
 use Rattle.promises.proofs.Held.{ready-fitting, Held, held-by}
 use Rattle.promises.proofs.OneLun.{only-put}
-use Rattle.promises.proofs.Seating.{named-there}
+use Rattle.promises.proofs.NamedFile.{file-named}
 
 -- the place at which a LUN starts
 start-last : (v e : List ℕ) (m : Mode) (end : Bool) → end ≡ true → writes m ≡ true → 1 ≤ extent v e → startOf v e m end ≡ At (extent v e - 1) 1
@@ -57,7 +57,7 @@ module _ (caller lun : ℕ) (desc : List ℕ) (mode : ℕ) (end : Bool) (s : Sta
 
   its-file : described (entryAt (s .image) (slotOf (s .image) desc)) ≡ desc
   unfolding named
-  its-file = sym (same-true _ _ (named-there caller lun desc mode end s T))
+  its-file = sym (same-true _ _ (file-named (T .named-file)))
 
   seats : Seats s (carried (Assign caller lun desc mode end) s) caller lun desc mode end (newLun (s .image) caller desc mode end)
   unfolding done quietly newLun seatOf

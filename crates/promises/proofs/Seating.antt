@@ -16,14 +16,12 @@ use Rattle.volume.specs.Names.{userOf}
 use Rattle.volume.specs.Directory.{entryAt, contiguous, named, described, owner}
 use Rattle.files.specs.Files.{extent}
 use Rattle.files.specs.Rights.{hasRight}
-use Rattle.files.proofs.UsedSlots.{named-used}
-use Rattle.keeping.proofs.SlotFound.{slot-holds}
 use Rattle.luns.specs.declared.Place.the-variants.{Fresh, At}
 use Rattle.luns.specs.Luns.{placeExists, freeLun, movedTo}
 use Rattle.luns.specs.declared.Mode.{Mode}
 use Rattle.luns.specs.Modes.{writes, modeOf}
 use Rattle.luns.proofs.Fitting.{fitting, free-fits, all-agree-free, Fitted, fitted-lun}
-use Rattle.work.specs.Volumes.{slotOf, exists}
+use Rattle.work.specs.Volumes.{slotOf}
 use Rattle.desk.specs.Desk.{State, state, putLun, lunAt, mine, spare}
 use Rattle.desk.specs.declared.Desk.{Desk}
 use Rattle.desk.specs.Calls.{Nothing, startOf, seatOf, newLun}
@@ -31,6 +29,7 @@ use Rattle.desk.proofs.DeskFitting.{put-fitting, moved-fitting}
 use Rattle.promises.proofs.Preserving.{Preserves, preserves-desk, good-desk}
 use Rattle.promises.proofs.Told.{BeginTold, AssignTold}
 use Rattle.promises.proofs.Held.{Held, held-by}
+use Rattle.promises.proofs.NamedFile.{file-named, file-used}
 use Rattle.promises.proofs.Units.{extent-run}
 use Rattle.promises.proofs.PlacesExist.{place-run, place-one}
 
@@ -99,18 +98,14 @@ right-of false h e = refl
 
 -- the new LUN fits, and agrees with all
 module _ (caller lun : ℕ) (desc : List ℕ) (mode : ℕ) (end : Bool) (s : State) (T : AssignTold s caller lun desc mode end) where
-  pub named-there : named desc (entryAt (s .image) (slotOf (s .image) desc)) ≡ true
-  unfolding slotOf exists
-  named-there = slot-holds (s .image) (named desc) (T .named-file .found)
-
   new-fitted : Fitted (s .image) (newLun (s .image) caller desc mode end)
   unfolding newLun seatOf spare
   new-fitted =
       let e : List ℕ = entryAt (s .image) (slotOf (s .image) desc) in
       record {
-        used = named-used desc e (T .named-file .described) named-there;
+        used = file-used (T .named-file);
         user-in = leb-true _ _ (and-left _ _ (and-left _ _ (T .is-spare)));
-        right = rw (sym (desc-owner desc e named-there)) (right-of (writes (modeOf mode)) (hasRight caller (userOf desc)) (T .right));
+        right = rw (sym (desc-owner desc e (file-named (T .named-file)))) (right-of (writes (modeOf mode)) (hasRight caller (userOf desc)) (T .right));
         place = start-exists (s .image) e (modeOf mode) end;
       }
 

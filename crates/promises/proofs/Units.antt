@@ -1,4 +1,4 @@
--- A file's units, records or sectors, and how far it goes; the same file, from one state to another, has the same units.
+-- A file's units, records or sectors, and how far it goes; the same file, from one image to another, has the same units.
 use mathlib.Core.Path.{_≡_, ap, _∙_, sym, refl}
 use mathlib.Core.Bool.{true, false, Bool}
 use mathlib.Core.List.{List, [], _∷_, _++_}

@@ -12,13 +12,11 @@ use Rattle.records.specs.Records.{allowed}
 use Rattle.files.specs.Files.{extent, records, recordAt}
 use Rattle.files.specs.Changes.{updated}
 use Rattle.files.proofs.RecordUpdated.{updated-changed, updated-free, updated-sound, updated-entry, records-updated, bytes-updated}
-use Rattle.luns.specs.declared.Place.the-variants.{At}
-use Rattle.luns.specs.Luns.{movedTo}
 use Rattle.work.specs.Transfers.{moving, updating}
-use Rattle.desk.specs.Desk.{State, fileOf, aimed, lunAt}
+use Rattle.desk.specs.Desk.{State, fileOf, aimed}
 use Rattle.desk.specs.Calls.{Units, after, Update, transferred, done}
 use Rattle.promises.specs.Sectors.{Bytes}
-use Rattle.promises.specs.Contents.{slotHeld, OnlyLun, Updated, AcceptedUpdate}
+use Rattle.promises.specs.Contents.{slotHeld, Updated, AcceptedUpdate}
 use Rattle.promises.proofs.Told.{UpdateTold, update-told}
 use Rattle.promises.proofs.Units.{extent-records, unit-record, record-other}
 use Rattle.promises.proofs.PlacesExist.{place-one, units-one}
@@ -26,7 +24,7 @@ use Rattle.promises.proofs.Held.{entryOf, Held, held-by}
 use Rattle.promises.proofs.Preserving.{Preserves, Rewrites, transferredTo, preserves-rewrite}
 use Rattle.promises.proofs.Appending.{right-length}
 use Rattle.promises.proofs.Passing.{accepted, carried}
-use Rattle.promises.proofs.OneLun.{only-put}
+use Rattle.promises.proofs.OneLun.{only-moved}
 
 module _ (caller lun sel num : ℕ) (bs : List ℕ) (s : State) (bi : Bytes (s .image)) (T : UpdateTold s caller lun sel num bs) where
   abbrev v : List ℕ
@@ -94,10 +92,6 @@ module _ (caller lun sel num : ℕ) (bs : List ℕ) (s : State) (bi : Bytes (s .
   unfolding fileOf updating moving after
   preserves-update = rw (units-one e (length bs) sequential) (preserves-rewrite s bi lun bs v′ i 1 H rewrites)
 
-  moves : OnlyLun (s .desk) (after (s .desk) lun (updating v e i bs)) lun (movedTo (At i 1) (lunAt (s .desk) lun))
-  unfolding after updating moving
-  moves = rw (units-one e (length bs) sequential) (only-put s lun (movedTo (At i 1) (lunAt (s .desk) lun)) (H .lun-in) (H .fits-of))
-
   did : Updated s (carried (Update caller lun sel num bs) s) lun (aimed s lun sel num) bs
   unfolding fileOf done transferred updating moving
   did = record {
@@ -107,7 +101,7 @@ module _ (caller lun sel num : ℕ) (bs : List ℕ) (s : State) (bi : Bytes (s .
     there = there;
     same-length = long ∙ ap length (sym (unit-record v e i sequential));
     replaced = update-records;
-    record-moved = moves;
+    record-moved = only-moved s lun (updating v e i bs) 1 (units-one e (length bs) sequential) H;
   }
 
 pub accepted-update : AcceptedUpdate

@@ -9,21 +9,19 @@ use lib.ListN.{length}
 use Rattle.volume.specs.Directory.{contiguous, entryAt}
 use Rattle.files.specs.Files.{records}
 use Rattle.files.specs.Changes.{overwritten, appended}
-use Rattle.luns.specs.declared.Place.the-variants.{At}
-use Rattle.luns.specs.Luns.{movedTo}
 use Rattle.work.specs.Transfers.{written, units, moving, writing}
-use Rattle.desk.specs.Desk.{State, fileOf, aimed, lunAt}
+use Rattle.desk.specs.Desk.{State, fileOf, aimed}
 use Rattle.desk.specs.Calls.{Units, after, Write, transferred, done}
 use Rattle.promises.specs.Sectors.{Bytes}
-use Rattle.promises.specs.Contents.{slotHeld, OnlyLun, Wrote, AcceptedWrite}
+use Rattle.promises.specs.Contents.{slotHeld, Wrote, AcceptedWrite}
 use Rattle.promises.proofs.Told.{WriteTold, write-told}
 use Rattle.promises.proofs.PlacesExist.{units-run, units-one}
-use Rattle.promises.proofs.Held.{entryOf, Held, held-by}
+use Rattle.promises.proofs.Held.{entryOf}
 use Rattle.promises.proofs.Preserving.{Preserves, movedOn, transferredTo, preserves-rewrite}
 use Rattle.promises.proofs.Appending.{Appending, appending, append-entry, append-records, append-rewrites}
 use Rattle.promises.proofs.Overwriting.{Overwriting, overwriting, overwrite-entry, overwrite-here, overwrite-rewrites}
 use Rattle.promises.proofs.Passing.{accepted, carried}
-use Rattle.promises.proofs.OneLun.{only-put}
+use Rattle.promises.proofs.OneLun.{only-moved}
 
 pub written-run : (e : List ℕ) (i : ℕ) (bs v : List ℕ) → contiguous e ≡ true → written e i bs v ≡ overwritten e i bs v
 unfolding written
@@ -49,9 +47,6 @@ module _ (caller lun sel num : ℕ) (bs : List ℕ) (s : State) (T : WriteTold s
   abbrev t : State
   t = movedOn s lun (written e i bs v) i (units e (length bs))
 
-  H : Held s lun
-  H = held-by s caller lun (T .opened .is-ready) (T .opened .is-mine)
-
   O : contiguous e ≡ true → Overwriting s lun i bs
   O q = overwriting caller lun sel num bs s T q
 
@@ -69,11 +64,6 @@ module _ (caller lun sel num : ℕ) (bs : List ℕ) (s : State) (T : WriteTold s
       go false q =
           rw (units-one e (length bs) q, written-records e i bs v q) (preserves-rewrite s bi lun bs (appended e bs v) i 1 (A q .held-file) (append-rewrites s lun i bs (A q)))
 
-  -- the place after it
-  moves : (n : ℕ) → units e (length bs) ≡ n → OnlyLun (s .desk) (after (s .desk) lun (writing v e i bs)) lun (movedTo (At i n) (lunAt (s .desk) lun))
-  unfolding after writing moving
-  moves n p = rw (sym p) (only-put s lun (movedTo (At i (units e (length bs))) (lunAt (s .desk) lun)) (H .lun-in) (H .fits-of))
-
   wrote : Wrote s (carried (Write caller lun sel num bs) s) lun (aimed s lun sel num) bs
   unfolding fileOf done transferred writing moving
   wrote = go (contiguous e) refl
@@ -89,7 +79,7 @@ module _ (caller lun sel num : ℕ) (bs : List ℕ) (s : State) (T : WriteTold s
             appended-record = λ p. absurd (true≢false (sym q ∙ p));
             sectors-written = λ p j h. rw w (overwrite-here s lun i bs (O q) j h);
             sectors-kept = λ p j h l. rw w (R .elsewhere j h (⊎-elim (λ a. inl (omega arith)) (λ a. inr a) l));
-            sectors-moved = λ p. moves (length bs / 256) (units-run e (length bs) q);
+            sectors-moved = λ p. only-moved s lun (writing v e i bs) (length bs / 256) (units-run e (length bs) q) (O q .held-file);
           }
       go false q =
           let w : written e i bs v ≡ appended e bs v = written-records e i bs v q in
@@ -99,7 +89,7 @@ module _ (caller lun sel num : ℕ) (bs : List ℕ) (s : State) (T : WriteTold s
             appended-record = λ p. (
               A q .at-end,
               ap (λ (u : List ℕ). records u e) w ∙ append-records s lun i bs (A q),
-              moves 1 (units-one e (length bs) q),
+              only-moved s lun (writing v e i bs) 1 (units-one e (length bs) q) (A q .held-file),
             );
             sectors-written = λ p. absurd (true≢false (sym p ∙ q));
             sectors-kept = λ p. absurd (true≢false (sym p ∙ q));

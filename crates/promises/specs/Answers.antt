@@ -8,9 +8,9 @@ use lib.ListN.{length, getD}
 use Rattle.lists.specs.Lists.{among}
 use Rattle.work.specs.declared.Refusal.{Refusal}
 use Rattle.work.specs.declared.Refusal.the-variants.{NotSound}
-use Rattle.work.specs.Refusals.{Rule, _if_}
+use Rattle.work.specs.Refusals.{code, Rule, _if_}
 use Rattle.desk.specs.Desk.{State, ready}
-use Rattle.desk.specs.Answers.{status, moved}
+use Rattle.desk.specs.Answers.{status, moved, Outcome}
 use Rattle.desk.specs.Calls.{Call, Format, Check, step, given, rules, Ensured}
 use Rattle.desk.specs.declared.Answer.{Answer}
 use Rattle.desk.specs.declared.Answer.the-variants.{Refused}
@@ -26,14 +26,15 @@ abbrev pub InTable : Type 0
 InTable = (c : Call) (s : State) → among (status (step c s .answer)) statusTable ≡ true
 
 -- "A refusal hands back its number and length 0, and image, desk and buffer keep every byte."
-pub record Kept (c : Call) (s : State) : Type 0 where
+pub record Kept (c : Call) (s : State) (r : Refusal) : Type 0 where
+  pub its-number : status (step c s .answer) ≡ code r
   pub length-0 : moved (step c s .answer) ≡ 0
   pub image-kept : step c s .image ≡ s .image
   pub desk-kept : step c s .desk ≡ s .desk
   pub buffer-kept : step c s .buffer ≡ given c
 
 abbrev pub RefusalKeeps : Type 0
-RefusalKeeps = (c : Call) (s : State) (r : Refusal) → step c s .answer ≡ Refused r → Kept c s
+RefusalKeeps = (c : Call) (s : State) (r : Refusal) → step c s .answer ≡ Refused r → Kept c s r
 
 -- Demand 2: "each refusal comes exactly when its condition holds and no earlier one in its call's order does."
 -- The rule at place k of the call's order is the first that applies
@@ -43,13 +44,22 @@ pub record First (rs : List Rule) (k : ℕ) (r : Refusal) : Type 0 where
   pub applies : getD rs k (NotSound if false) .holds ≡ true
   pub none-earlier : (j : ℕ) → j < k → getD rs j (NotSound if false) .holds ≡ false
 
+-- a program as a reader sees it, what it makes of each call in each state; one whose refusals are those; and so are the service's
+abbrev pub Program : Type 0
+Program = Call → State → Outcome
+
+abbrev pub RefusesExactly : Program → Type 0
+RefusesExactly p = (c : Call) (s : State) (r : Refusal) → (p c s .answer ≡ Refused r) ↔ ((k : ℕ) × First (rules c s) k r)
+
 abbrev pub RefusedExactly : Type 0
-RefusedExactly = (c : Call) (s : State) (r : Refusal) → (step c s .answer ≡ Refused r) ↔ ((k : ℕ) × First (rules c s) k r)
+RefusedExactly = RefusesExactly (λ c s. step c s)
 
 -- RULES, Status numbers: $6F: a volume that is not sound, or a desk that does not fit it, is refused by every call but format and check
+abbrev pub NoFormat : Call → Type 0
+NoFormat c = (id : List ℕ) (n : ℕ) → c ≢ Format id n
+
 abbrev pub UnreadyRefused : Type 0
-UnreadyRefused =
-    (c : Call) (s : State) → ((id : List ℕ) (n : ℕ) → c ≢ Format id n) → c ≢ Check → ready s ≡ false → step c s .answer ≡ Refused NotSound
+UnreadyRefused = (c : Call) (s : State) → NoFormat c → c ≢ Check → ready s ≡ false → step c s .answer ≡ Refused NotSound
 
 -- At most one outcome satisfies each call's statement: `Ensured` is what the ten public functions ensure
 pub record SameOutcome (a a′ : Answer) (img img′ : List ℕ) (d d′ : Desk) (buf buf′ : List ℕ) : Type 0 where

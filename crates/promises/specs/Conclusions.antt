@@ -1,6 +1,5 @@
 -- Hollow programs that the statements shut out, and check's count. The steps are those of RULES, Worked example.
 use mathlib.Core.Path.{_≡_}
-use mathlib.Core.Logic.{_↔_}
 use mathlib.Core.Bool.{false, true}
 use mathlib.Core.List.{List, []}
 use Prim.Native.Nat.{ℕ, _+_, _*_, _≤_}
@@ -10,24 +9,16 @@ use Rattle.lists.specs.Lists.{if_then_else_}
 use Rattle.volume.specs.Directory.{start, contiguous}
 use Rattle.volume.specs.Sat.{free}
 use Rattle.files.specs.Files.{extent, sound}
-use Rattle.work.specs.declared.Refusal.{Refusal}
 use Rattle.desk.specs.Desk.{State, fileOf}
-use Rattle.desk.specs.Answers.{Outcome, accepts, status, outcome}
-use Rattle.desk.specs.Calls.{Call, rules, step, Write, Check}
-use Rattle.desk.specs.declared.Answer.the-variants.{Refused, Done}
+use Rattle.desk.specs.Answers.{accepts, status, outcome}
+use Rattle.desk.specs.Calls.{Call, Ensured, step, Write, Check}
+use Rattle.desk.specs.declared.Answer.the-variants.{Done}
 use Rattle.desk.specs.declared.Report.the-variants.{Checked}
-use Rattle.promises.specs.Answers.{First}
+use Rattle.promises.specs.Answers.{Program, RefusesExactly}
 
--- A program as a reader sees it: what it makes of each call in each state
-abbrev pub Program : Type 0
-Program = Call → State → Outcome
-
--- its refusals are those of demand 2; every call's statement holds of it
-abbrev pub RefusesExactly : Program → Type 0
-RefusesExactly p = (c : Call) (s : State) (r : Refusal) → (p c s .answer ≡ Refused r) ↔ ((k : ℕ) × First (rules c s) k r)
-
+-- a program that ensures what the ten functions ensure
 abbrev pub Meets : Program → Type 0
-Meets p = (c : Call) (s : State) → p c s ≡ step c s
+Meets p = (c : Call) (s : State) → Ensured c s (p c s .answer) (p c s .image) (p c s .desk) (p c s .buffer)
 
 -- A program that refuses everything, and one that answers $00 to everything: the exact condition of each refusal shuts both out
 abbrev pub NotAllRefused : Type 0

@@ -20,10 +20,11 @@ use Rattle.luns.specs.declared.Place.the-variants.{At}
 use Rattle.luns.specs.Luns.{movedTo}
 use Rattle.desk.specs.Desk.{State, lunAt, fileOf, aimed}
 use Rattle.desk.specs.Answers.{Outcome}
-use Rattle.desk.specs.Calls.{Write, step, Update, Read, Call, touch, Format}
+use Rattle.desk.specs.Calls.{Write, step, Update, Read, Call, touch}
 use Rattle.desk.specs.declared.Desk.{Desk}
 use Rattle.desk.specs.declared.Report.the-variants.{Moved}
 use Rattle.desk.specs.declared.Answer.the-variants.{Done}
+use Rattle.promises.specs.Answers.{NoFormat}
 use Rattle.promises.specs.Sectors.{Accepts, Bytes, File}
 use Rattle.promises.specs.Touches.{changes}
 
@@ -129,9 +130,6 @@ pub record SameFrame (img img′ : List ℕ) : Type 0 where
   pub as-long : length img′ ≡ length img
   pub vid-same : sector 0 img′ ≡ sector 0 img
   pub trailer-same : trailer img′ ≡ trailer img
-
-abbrev pub NoFormat : Call → Type 0
-NoFormat c = (id : List ℕ) (n : ℕ) → c ≢ Format id n
 
 abbrev pub FrameKept : Type 0
 FrameKept = (s : State) → Bytes (s .image) → (c : Call) → NoFormat c → SameFrame (s .image) (step c s .image)

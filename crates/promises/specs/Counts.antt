@@ -9,11 +9,12 @@ use Rattle.lists.specs.Parts.{inSectors}
 use Rattle.volume.specs.Directory.{contiguous, entryAt, recordLength, size}
 use Rattle.volume.specs.Sat.{free}
 use Rattle.ownership.specs.Blocks.{block, streamLength, total}
+use Rattle.files.specs.Changes.{taken}
 use Rattle.work.specs.Volumes.{slotOf}
 use Rattle.desk.specs.Desk.{State, fileOf}
 use Rattle.desk.specs.Calls.{Call, Format, Check, Allocate, Assign, Close, Rewind, Delete, Read, Write, Update, step}
 use Rattle.promises.specs.Sectors.{Bytes, Accepts}
-use Rattle.promises.specs.Contents.{NoFormat}
+use Rattle.promises.specs.Answers.{NoFormat}
 
 -- the sectors that a file has, its access block too
 unfoldable pub sectorsHeld : List ℕ → List ℕ → ℕ
@@ -36,7 +37,7 @@ trading t g = record { takes = t; gives = g }
 unfoldable pub trade : Call → State → Trade
 trade (Format id n) s = trading 0 0
 trade Check s = trading 0 0
-trade (Allocate caller desc k n l) s = trading (if eqb k 0 then n else 1) 0
+trade (Allocate caller desc k n l) s = trading (taken k n) 0
 trade (Assign caller lun desc mode end) s = trading 0 0
 trade (Close caller lun) s = trading 0 0
 trade (Rewind caller lun) s = trading 0 0

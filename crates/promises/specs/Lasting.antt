@@ -53,17 +53,21 @@ pub record Between (img : List ℕ) (k i : ℕ) (vs : List Visit) (img′ : List
   pub nothing-ends-it : lasts vs img k i ≡ true
   pub reached : img′ ≡ through vs img
 
--- "What was written under a record number is read under it": what an accepted write left there, whatever calls come between, any
--- accepted read of it hands over, by whichever desk, LUN and caller
+-- any accepted read of unit i of slot k, by whichever LUN and caller, hands over bs
+abbrev pub HandsBack : State → ℕ → ℕ → List ℕ → Type 0
+HandsBack t k i bs =
+    (caller lun sel num : ℕ) (buf : List ℕ) → Accepts (Read caller lun sel num buf) t → slotHeld t lun ≡ k → aimed t lun sel num ≡ i
+    → (step (Read caller lun sel num buf) t .buffer ≡ over bs buf)
+    × (step (Read caller lun sel num buf) t .answer ≡ Done (Moved (length bs)))
+
+-- "What was written under a record number is read under it": what an accepted write left there, whatever calls come between and whichever
+-- desk comes with the read
 abbrev pub WrittenIsRead : Type 0
 WrittenIsRead =
     (s : State) → Bytes (s .image) → (caller lun sel num : ℕ) (bs : List ℕ) → Bytes bs → Accepts (Write caller lun sel num bs) s
     → contiguous (fileOf s lun) ≡ false → (vs : List Visit) (t : State)
     → Between (step (Write caller lun sel num bs) s .image) (slotHeld s lun) (aimed s lun sel num) vs (t .image)
-    → (caller′ lun′ sel′ num′ : ℕ) (buf : List ℕ) → Accepts (Read caller′ lun′ sel′ num′ buf) t
-    → slotHeld t lun′ ≡ slotHeld s lun → aimed t lun′ sel′ num′ ≡ aimed s lun sel num
-    → (step (Read caller′ lun′ sel′ num′ buf) t .buffer ≡ over bs buf)
-    × (step (Read caller′ lun′ sel′ num′ buf) t .answer ≡ Done (Moved (length bs)))
+    → HandsBack t (slotHeld s lun) (aimed s lun sel num) bs
 
 -- the same of what an accepted update put in a record's place
 abbrev pub UpdatedIsRead : Type 0
@@ -71,10 +75,7 @@ UpdatedIsRead =
     (s : State) → Bytes (s .image) → (caller lun sel num : ℕ) (bs : List ℕ) → Bytes bs → Accepts (Update caller lun sel num bs) s
     → (vs : List Visit) (t : State)
     → Between (step (Update caller lun sel num bs) s .image) (slotHeld s lun) (aimed s lun sel num) vs (t .image)
-    → (caller′ lun′ sel′ num′ : ℕ) (buf : List ℕ) → Accepts (Read caller′ lun′ sel′ num′ buf) t
-    → slotHeld t lun′ ≡ slotHeld s lun → aimed t lun′ sel′ num′ ≡ aimed s lun sel num
-    → (step (Read caller′ lun′ sel′ num′ buf) t .buffer ≡ over bs buf)
-    × (step (Read caller′ lun′ sel′ num′ buf) t .answer ≡ Done (Moved (length bs)))
+    → HandsBack t (slotHeld s lun) (aimed s lun sel num) bs
 
 -- and of sector j of a contiguous write, as long as nothing ends that sector: any accepted read, of whatever run of sectors, that covers
 -- it as its sector a has it there in its buffer

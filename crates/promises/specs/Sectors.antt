@@ -1,5 +1,5 @@
 -- Demand 3: where the sectors of a sound volume are, and that volumes stay sound.
-use mathlib.Core.List.{List, [], _∷_}
+use mathlib.Core.List.{List, [], _∷_, map}
 use mathlib.Core.Path.{_≡_}
 use mathlib.Core.Bool.{true, false}
 use mathlib.Core.Logic.{_≢_}
@@ -29,8 +29,7 @@ AllBytes [] = Unit {0}
 AllBytes (c ∷ cs) = Bytes (sent c) × AllBytes cs
 
 abbrev pub VisitBytes : List Visit → Type 0
-VisitBytes [] = Unit {0}
-VisitBytes (v ∷ vs) = Bytes (sent (v .call)) × VisitBytes vs
+VisitBytes vs = AllBytes (map (λ v. v .call) vs)
 
 -- a call that is not refused
 abbrev pub Accepts : Call → State → Type 0

@@ -1,5 +1,5 @@
 -- RULES, Worked example: its steps, one computed list with one statement.
-use mathlib.Core.List.{List, _∷_, [], _++_}
+use mathlib.Core.List.{List, _∷_, [], _++_, map}
 use mathlib.Core.Bool.{false}
 use mathlib.Core.Path.{_≡_, refl}
 use Prim.Native.Nat.{ℕ}
@@ -34,9 +34,8 @@ pub record Step : Type 0 where
   pub call : Call
   pub look : List ℕ → List ℕ
 
-unfoldable pub calls : List Step → List Call
-calls [] = []
-calls (t ∷ ts) = t .call ∷ calls ts
+abbrev pub calls : List Step → List Call
+calls = map (λ t. t .call)
 
 -- of each call its status, its length, and what is looked at
 shown : List Step → List Outcome → List (List ℕ)
@@ -146,5 +145,5 @@ unfolding lists-open parts-open names-open volume-open directory-open blocks-ope
 service-open = tt
 
 pub small-volume : SmallVolume
-unfolding steps settled story blank followed calls shown trace next desc sat2 at bytesIn segments second service-open
+unfolding steps settled story blank followed shown trace next desc sat2 at bytesIn segments second service-open
 small-volume = refl
