@@ -1,6 +1,6 @@
 -- What a call's work came to, as the outcome of the call: its own rules, and then its change.
 use mathlib.Core.Path.{_≡_, ap, sym, _∙_}
-use mathlib.Core.Bool.{true, false}
+use mathlib.Core.Bool.{Bool, true, false}
 use mathlib.Core.List.{List, []}
 use Prim.Native.Nat.{ℕ}
 use lib.ListN.{length}
@@ -60,42 +60,42 @@ module _ (img : List ℕ) (d : Desk) (w : Worked) where
       ∙ sym (begun-left (state img d) (leb caller lastUser) p b (allocateRules img caller desc k n l) [] _)
 
   -- the transfers
-  module _ (caller lun sel num : ℕ) (a : Aim) where
+  module _ (caller lun sel num : ℕ) (fmt : Bool) (a : Aim) where
     pub read-told : openedOf false (state img d) caller lun sel num ≡ opened.At a → (buf buf′ : List ℕ)
-        → deed w img buf′ ≡ readDeed img (entryAt img (a .slot)) (a .i) buf
-        → outcome (settled d lun w .answer) img (settled d lun w .desk) buf′ ≡ step (Read caller lun sel num buf) (state img d)
+        → deed w img buf′ ≡ readDeed img (entryAt img (a .slot)) (a .i) fmt buf
+        → outcome (settled d lun w .answer) img (settled d lun w .desk) buf′ ≡ step (Read caller lun sel num fmt buf) (state img d)
     unfolding readDeed step rules done given openRules aimOf fileOf
     read-told o buf buf′ e =
         let s : State = state img d in
         let f = fileOf s lun in
         let i = aimed s lun sel num in
         let q : a ≡ aimOf s lun sel num = opened-aim false s caller lun sel num a o in
-        ap (settledBy d lun) (e ∙ ap (λ (x : Aim). readDeed img (entryAt img (x .slot)) (x .i) buf) q)
-        ∙ moved-told d lun (readRules img f i (length buf)) img buf (reading img f i buf)
-        ∙ sym (opened-left false s caller lun sel num a o (readRules img f i (length buf)) buf _)
+        ap (settledBy d lun) (e ∙ ap (λ (x : Aim). readDeed img (entryAt img (x .slot)) (x .i) fmt buf) q)
+        ∙ moved-told d lun (readRules img f i fmt (length buf)) img buf (reading img f i fmt buf)
+        ∙ sym (opened-left false s caller lun sel num a o (readRules img f i fmt (length buf)) buf _)
 
     pub write-told : openedOf true (state img d) caller lun sel num ≡ opened.At a → (img′ bs : List ℕ)
-        → deed w img′ bs ≡ writeDeed img (entryAt img (a .slot)) (a .i) bs
-        → outcome (settled d lun w .answer) img′ (settled d lun w .desk) bs ≡ step (Write caller lun sel num bs) (state img d)
+        → deed w img′ bs ≡ writeDeed img (entryAt img (a .slot)) (a .i) fmt bs
+        → outcome (settled d lun w .answer) img′ (settled d lun w .desk) bs ≡ step (Write caller lun sel num fmt bs) (state img d)
     unfolding writeDeed step rules done given openRules aimOf fileOf
     write-told o img′ bs e =
         let s : State = state img d in
         let f = fileOf s lun in
         let i = aimed s lun sel num in
         let q : a ≡ aimOf s lun sel num = opened-aim true s caller lun sel num a o in
-        ap (settledBy d lun) (e ∙ ap (λ (x : Aim). writeDeed img (entryAt img (x .slot)) (x .i) bs) q)
-        ∙ moved-told d lun (writeRules img f i bs) img bs (writing img f i bs)
-        ∙ sym (opened-left true s caller lun sel num a o (writeRules img f i bs) bs _)
+        ap (settledBy d lun) (e ∙ ap (λ (x : Aim). writeDeed img (entryAt img (x .slot)) (x .i) fmt bs) q)
+        ∙ moved-told d lun (writeRules img f i fmt bs) img bs (writing img f i fmt bs)
+        ∙ sym (opened-left true s caller lun sel num a o (writeRules img f i fmt bs) bs _)
 
     pub update-told : openedOf true (state img d) caller lun sel num ≡ opened.At a → (img′ bs : List ℕ)
-        → deed w img′ bs ≡ updateDeed img (entryAt img (a .slot)) (a .i) bs
-        → outcome (settled d lun w .answer) img′ (settled d lun w .desk) bs ≡ step (Update caller lun sel num bs) (state img d)
+        → deed w img′ bs ≡ updateDeed img (entryAt img (a .slot)) (a .i) fmt bs
+        → outcome (settled d lun w .answer) img′ (settled d lun w .desk) bs ≡ step (Update caller lun sel num fmt bs) (state img d)
     unfolding updateDeed step rules done given openRules aimOf fileOf
     update-told o img′ bs e =
         let s : State = state img d in
         let f = fileOf s lun in
         let i = aimed s lun sel num in
         let q : a ≡ aimOf s lun sel num = opened-aim true s caller lun sel num a o in
-        ap (settledBy d lun) (e ∙ ap (λ (x : Aim). updateDeed img (entryAt img (x .slot)) (x .i) bs) q)
-        ∙ moved-told d lun (updateRules img f i bs) img bs (updating img f i bs)
-        ∙ sym (opened-left true s caller lun sel num a o (updateRules img f i bs) bs _)
+        ap (settledBy d lun) (e ∙ ap (λ (x : Aim). updateDeed img (entryAt img (x .slot)) (x .i) fmt bs) q)
+        ∙ moved-told d lun (updateRules img f i fmt bs) img bs (updating img f i fmt bs)
+        ∙ sym (opened-left true s caller lun sel num a o (updateRules img f i fmt bs) bs _)

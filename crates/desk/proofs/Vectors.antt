@@ -51,14 +51,14 @@ story =
     played
     (Allocate 5 desc 1 0 0
     ∷ Assign 5 0 desc 4 true
-    ∷ Write 5 0 0 0 (0x41 ∷ 0x42 ∷ 0x43 ∷ [])
-    ∷ Read 5 0 1 0 (1 ∷ 2 ∷ 3 ∷ 4 ∷ [])
-    ∷ Read 5 0 0 0 (1 ∷ 2 ∷ 3 ∷ 4 ∷ [])
-    ∷ Read 5 0 1 0 (1 ∷ 2 ∷ [])
-    ∷ Update 5 0 1 0 (1 ∷ 2 ∷ [])
-    ∷ Update 5 0 1 0 (7 ∷ 8 ∷ 9 ∷ [])
+    ∷ Write 5 0 0 0 false (0x41 ∷ 0x42 ∷ 0x43 ∷ [])
+    ∷ Read 5 0 1 0 false (1 ∷ 2 ∷ 3 ∷ 4 ∷ [])
+    ∷ Read 5 0 0 0 false (1 ∷ 2 ∷ 3 ∷ 4 ∷ [])
+    ∷ Read 5 0 1 0 false (1 ∷ 2 ∷ [])
+    ∷ Update 5 0 1 0 false (1 ∷ 2 ∷ [])
+    ∷ Update 5 0 1 0 false (7 ∷ 8 ∷ 9 ∷ [])
     ∷ Rewind 5 0
-    ∷ Read 5 0 0 0 (1 ∷ 2 ∷ 3 ∷ [])
+    ∷ Read 5 0 0 0 false (1 ∷ 2 ∷ 3 ∷ [])
     ∷ Assign 6 1 desc 2 false
     ∷ Assign 6 1 desc 0 false
     ∷ Close 6 0

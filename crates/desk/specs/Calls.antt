@@ -41,8 +41,8 @@ pub data Call : Type 0 where
   Assign : (caller lun : ℕ) (desc : List ℕ) (mode : ℕ) (end : Bool) → Call
   Close Rewind : (caller lun : ℕ) → Call
   Delete : (caller : ℕ) (desc : List ℕ) → Call
-  Read : (caller lun sel num : ℕ) (buffer : List ℕ) → Call
-  Write Update : (caller lun sel num : ℕ) (bytes : List ℕ) → Call
+  Read : (caller lun sel num : ℕ) (formatted : Bool) (buffer : List ℕ) → Call
+  Write Update : (caller lun sel num : ℕ) (formatted : Bool) (bytes : List ℕ) → Call
 
 -- RULES, The calls: all but format and check begin with $6F and $03; `fine` says whether caller and LUN are as the call wants them
 unfoldable pub beginRules : State → Bool → List Rule
@@ -101,10 +101,12 @@ rules (Assign caller lun desc mode end) s = assignRules s caller lun desc mode e
 rules (Close caller lun) s = beginRules s (mine (s .desk) caller lun)
 rules (Rewind caller lun) s = beginRules s (mine (s .desk) caller lun)
 rules (Delete caller desc) s = deleteRules s caller desc
-rules (Read caller lun sel num buf) s =
-    openRules reads s caller lun sel ++ readRules (s .image) (fileOf s lun) (aimed s lun sel num) (length buf)
-rules (Write caller lun sel num bs) s = openRules writes s caller lun sel ++ writeRules (s .image) (fileOf s lun) (aimed s lun sel num) bs
-rules (Update caller lun sel num bs) s = openRules writes s caller lun sel ++ updateRules (s .image) (fileOf s lun) (aimed s lun sel num) bs
+rules (Read caller lun sel num fmt buf) s =
+    openRules reads s caller lun sel ++ readRules (s .image) (fileOf s lun) (aimed s lun sel num) fmt (length buf)
+rules (Write caller lun sel num fmt bs) s =
+    openRules writes s caller lun sel ++ writeRules (s .image) (fileOf s lun) (aimed s lun sel num) fmt bs
+rules (Update caller lun sel num fmt bs) s =
+    openRules writes s caller lun sel ++ updateRules (s .image) (fileOf s lun) (aimed s lun sel num) fmt bs
 
 -- a change with no data: image and desk after it
 unfoldable pub quietly : List ℕ → Desk → Change
@@ -136,9 +138,9 @@ done (Assign caller lun desc mode end) s = quietly (s .image) (putLun (s .desk) 
 done (Close caller lun) s = quietly (s .image) (putLun (s .desk) lun freeLun)
 done (Rewind caller lun) s = quietly (s .image) (putLun (s .desk) lun (movedTo Fresh (lunAt (s .desk) lun)))
 done (Delete caller desc) s = quietly (deleted (slotOf (s .image) desc) (s .image)) (s .desk)
-done (Read caller lun sel num buf) s = transferred s lun (reading (s .image) (fileOf s lun) (aimed s lun sel num) buf)
-done (Write caller lun sel num bs) s = transferred s lun (writing (s .image) (fileOf s lun) (aimed s lun sel num) bs)
-done (Update caller lun sel num bs) s = transferred s lun (updating (s .image) (fileOf s lun) (aimed s lun sel num) bs)
+done (Read caller lun sel num fmt buf) s = transferred s lun (reading (s .image) (fileOf s lun) (aimed s lun sel num) fmt buf)
+done (Write caller lun sel num fmt bs) s = transferred s lun (writing (s .image) (fileOf s lun) (aimed s lun sel num) fmt bs)
+done (Update caller lun sel num fmt bs) s = transferred s lun (updating (s .image) (fileOf s lun) (aimed s lun sel num) fmt bs)
 
 -- the buffer that a call is lent, and the bytes that its caller sends
 unfoldable pub given : Call → List ℕ
@@ -149,9 +151,9 @@ given (Assign caller lun desc mode end) = []
 given (Close caller lun) = []
 given (Rewind caller lun) = []
 given (Delete caller desc) = []
-given (Read caller lun sel num buf) = buf
-given (Write caller lun sel num bs) = bs
-given (Update caller lun sel num bs) = bs
+given (Read caller lun sel num fmt buf) = buf
+given (Write caller lun sel num fmt bs) = bs
+given (Update caller lun sel num fmt bs) = bs
 
 unfoldable pub sent : Call → List ℕ
 sent (Format id n) = id
@@ -161,9 +163,9 @@ sent (Assign caller lun desc mode end) = desc
 sent (Close caller lun) = []
 sent (Rewind caller lun) = []
 sent (Delete caller desc) = desc
-sent (Read caller lun sel num buf) = []
-sent (Write caller lun sel num bs) = bs
-sent (Update caller lun sel num bs) = bs
+sent (Read caller lun sel num fmt buf) = []
+sent (Write caller lun sel num fmt bs) = bs
+sent (Update caller lun sel num fmt bs) = bs
 
 -- RULES, The calls: what a call may touch of the files that are there: nothing; one file; of one file n records or sectors from i on;
 -- where files lie, and nothing that is read from them; everything
@@ -182,10 +184,10 @@ touch (Assign caller lun desc mode end) s = Nothing
 touch (Close caller lun) s = Nothing
 touch (Rewind caller lun) s = Nothing
 touch (Delete caller desc) s = OneFile (slotOf (s .image) desc)
-touch (Read caller lun sel num buf) s = Nothing
-touch (Write caller lun sel num bs) s =
+touch (Read caller lun sel num fmt buf) s = Nothing
+touch (Write caller lun sel num fmt bs) s =
     Units (lunAt (s .desk) lun .slot) (aimed s lun sel num) (units (fileOf s lun) (length bs))
-touch (Update caller lun sel num bs) s = Units (lunAt (s .desk) lun .slot) (aimed s lun sel num) 1
+touch (Update caller lun sel num fmt bs) s = Units (lunAt (s .desk) lun .slot) (aimed s lun sel num) 1
 
 -- One call: the first rule that applies, or its change
 unfoldable pub step : Call → State → Outcome

@@ -2,6 +2,7 @@ pub mod AreBytes
 pub mod Blanks
 pub mod Bools
 pub mod FirstFound
+pub mod Fronts
 pub mod IndexFound
 pub mod JoinedLists
 pub mod Keeps

@@ -91,9 +91,9 @@ unready-refused (Assign caller lun desc mode end) s f k h = unready (Assign call
 unready-refused (Close caller lun) s f k h = unready (Close caller lun) s _ refl h
 unready-refused (Rewind caller lun) s f k h = unready (Rewind caller lun) s _ refl h
 unready-refused (Delete caller desc) s f k h = unready (Delete caller desc) s _ refl h
-unready-refused (Read caller lun sel num buf) s f k h = unready (Read caller lun sel num buf) s _ refl h
-unready-refused (Write caller lun sel num bs) s f k h = unready (Write caller lun sel num bs) s _ refl h
-unready-refused (Update caller lun sel num bs) s f k h = unready (Update caller lun sel num bs) s _ refl h
+unready-refused (Read caller lun sel num fmt buf) s f k h = unready (Read caller lun sel num fmt buf) s _ refl h
+unready-refused (Write caller lun sel num fmt bs) s f k h = unready (Write caller lun sel num fmt bs) s _ refl h
+unready-refused (Update caller lun sel num fmt bs) s f k h = unready (Update caller lun sel num fmt bs) s _ refl h
 
 pub one-outcome : OneOutcome
 one-outcome c s a a′ img img′ d d′ buf buf′ e f =

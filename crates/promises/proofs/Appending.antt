@@ -32,29 +32,29 @@ unfolding beyond
 not-beyond v e i n q h = ltb-false _ _ (rw q at h)
 
 -- what an accepted write says of a sequential file
-pub record Appending (s : State) (lun i : ℕ) (bs : List ℕ) : Type 0 where
+pub record Appending (s : State) (lun i : ℕ) (ss : List ℕ) : Type 0 where
   pub held-file : Held s lun
   pub sequential : contiguous (entryOf s lun) ≡ false
   pub at-end : i ≡ length (records (s .image) (entryOf s lun))
-  pub fine : allowed (recordLength (entryOf s lun)) bs ≡ true
-  pub enough : needed (s .image) (entryOf s lun) bs ≤ free (s .image)
-  pub few : length (newPairs (s .image) (entryOf s lun) bs) ≤ mostSegments
+  pub fine : allowed (recordLength (entryOf s lun)) ss ≡ true
+  pub enough : needed (s .image) (entryOf s lun) ss ≤ free (s .image)
+  pub few : length (newPairs (s .image) (entryOf s lun) ss) ≤ mostSegments
 
-pub appending : (caller lun sel num : ℕ) (bs : List ℕ) (s : State) → WriteTold s caller lun sel num bs → contiguous (entryOf s lun) ≡ false
-    → Appending s lun (aimed s lun sel num) bs
+pub appending : (caller lun sel num : ℕ) (ss : List ℕ) (s : State) → WriteTold s caller lun sel num ss → contiguous (entryOf s lun) ≡ false
+    → Appending s lun (aimed s lun sel num) ss
 unfolding fileOf
-appending caller lun sel num bs s T q =
+appending caller lun sel num ss s T q =
     let e : List ℕ = entryOf s lun in
     record {
       held-file = held-by s caller lun (T .opened .is-ready) (T .opened .is-mine);
       sequential = q;
-      at-end = omega (arith, not-beyond (s .image) e (aimed s lun sel num) (length bs) q (T .inside), T .is-new q, extent-records (s .image) e q);
-      fine = right-length e bs q (T .long-ok);
+      at-end = omega (arith, not-beyond (s .image) e (aimed s lun sel num) (length ss) q (T .inside), T .is-new q, extent-records (s .image) e q);
+      fine = right-length e ss q (T .long-ok);
       enough = T .enough q;
       few = T .few q;
     }
 
-module _ (s : State) (lun i : ℕ) (bs : List ℕ) (A : Appending s lun i bs) where
+module _ (s : State) (lun i : ℕ) (ss : List ℕ) (A : Appending s lun i ss) where
   abbrev v : List ℕ
   v = s .image
 
@@ -65,37 +65,37 @@ module _ (s : State) (lun i : ℕ) (bs : List ℕ) (A : Appending s lun i bs) wh
   e = entryOf s lun
 
   abbrev v′ : List ℕ
-  v′ = appended e bs v
+  v′ = appended e ss v
 
   abbrev H : Held s lun
   H = A .held-file
 
-  pub append-entry : entryAt (appended (entryOf s lun) bs (s .image)) (slotHeld s lun) ≡ entryOf s lun
-  append-entry = appended-entry v (H .facts-of) k (H .slot-in) (H .lun-ok .used) (A .sequential) bs (A .fine) (A .enough) (A .few)
+  pub append-entry : entryAt (appended (entryOf s lun) ss (s .image)) (slotHeld s lun) ≡ entryOf s lun
+  append-entry = appended-entry v (H .facts-of) k (H .slot-in) (H .lun-ok .used) (A .sequential) ss (A .fine) (A .enough) (A .few)
 
-  pub append-records : records (appended (entryOf s lun) bs (s .image)) (entryOf s lun) ≡ records (s .image) (entryOf s lun) ++ (bs ∷ [])
-  append-records = records-appended v (H .facts-of) k (H .slot-in) (H .lun-ok .used) (A .sequential) bs (A .fine) (A .enough) (A .few)
+  pub append-records : records (appended (entryOf s lun) ss (s .image)) (entryOf s lun) ≡ records (s .image) (entryOf s lun) ++ (ss ∷ [])
+  append-records = records-appended v (H .facts-of) k (H .slot-in) (H .lun-ok .used) (A .sequential) ss (A .fine) (A .enough) (A .few)
 
   extent-after : extent v′ e ≡ extent v e + 1
   extent-after =
       extent-records v′ e (A .sequential)
       ∙ ap length append-records
-      ∙ length-append (records v e) (bs ∷ [])
+      ∙ length-append (records v e) (ss ∷ [])
       ∙ ap (λ (m : ℕ). m + 1) (sym (extent-records v e (A .sequential)))
 
-  pub append-there : i < extent (appended (entryOf s lun) bs (s .image)) (entryOf s lun)
+  pub append-there : i < extent (appended (entryOf s lun) ss (s .image)) (entryOf s lun)
   append-there = omega (arith, A .at-end, extent-records v e (A .sequential), extent-after)
 
-  pub append-rewrites : Rewrites s lun bs (appended (entryOf s lun) bs (s .image)) i 1
+  pub append-rewrites : Rewrites s lun ss (appended (entryOf s lun) ss (s .image)) i 1
   append-rewrites = record {
     ws = _;
-    changed = appended-changed v (H .facts-of) k (H .slot-in) (H .lun-ok .used) (A .sequential) bs (A .fine) (A .enough) (A .few);
-    is-sound = appended-sound v (H .facts-of) k (H .slot-in) (H .lun-ok .used) (A .sequential) bs (A .fine) (A .enough) (A .few);
-    are-bytes = λ bi b. bytes-appended v (H .facts-of) k (H .slot-in) (H .lun-ok .used) (A .sequential) bs (A .fine) (A .enough) (A .few) bi b;
+    changed = appended-changed v (H .facts-of) k (H .slot-in) (H .lun-ok .used) (A .sequential) ss (A .fine) (A .enough) (A .few);
+    is-sound = appended-sound v (H .facts-of) k (H .slot-in) (H .lun-ok .used) (A .sequential) ss (A .fine) (A .enough) (A .few);
+    are-bytes = λ bi b. bytes-appended v (H .facts-of) k (H .slot-in) (H .lun-ok .used) (A .sequential) ss (A .fine) (A .enough) (A .few) bi b;
     as-long = omega (arith, extent-after);
     place = place-one v′ e i (A .sequential) append-there;
     elsewhere = λ u l h.
         unit-record v′ e u (A .sequential)
-        ∙ record-before v v′ e u bs (omega (arith, extent-records v e (A .sequential))) append-records
+        ∙ record-before v v′ e u ss (omega (arith, extent-records v e (A .sequential))) append-records
         ∙ sym (unit-record v e u (A .sequential));
   }

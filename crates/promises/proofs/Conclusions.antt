@@ -88,7 +88,7 @@ sat-put a n img h l =
     List·getD-append (take a img) (n ++ drop (a + length n) img) 0 256 (simp length-take (omega arith)) ∙ getD-take a img 256 0 h
 
 step-6 : Call
-step-6 = Write 5 0 0 0 (replicate 250 1)
+step-6 = Write 5 0 0 0 false (replicate 250 1)
 
 -- what step 6 finds: a sequential file with a record, its access block behind the SAT
 record AtStep6 : Type 0 where
@@ -110,7 +110,7 @@ not-only-E p meets h =
     let s : State = reached 6 in
     let m : p step-6 s ≡ step step-6 s = meets step-6 s in
     let yes-done : accepts (p step-6 s .answer) ≡ true = ap (λ (o : Outcome). accepts (o .answer)) m ∙ found .is-done in
-    let E = h s 5 0 0 0 (replicate 250 1) yes-done (found .sequential) (omega (arith, found .one-record)) in
+    let E = h s 5 0 0 0 false (replicate 250 1) yes-done (found .sequential) (omega (arith, found .one-record)) in
     let z : _≡_ {A = ℕ} 0xF3 0xE3 =
     sym (found .byte-is)
     ∙ ap (λ (o : Outcome). sat-byte (o .image)) (sym m)

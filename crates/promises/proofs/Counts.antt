@@ -112,9 +112,9 @@ counted (Assign caller lun desc mode end) s b h a = refl
 counted (Close caller lun) s b h a = refl
 counted (Rewind caller lun) s b h a = refl
 counted (Delete caller desc) s b h a = omega (arith, free-delete caller desc s (delete-told caller desc s a))
-counted (Read caller lun sel num buf) s b h a = refl
-counted (Write caller lun sel num bs) s b h a = free-write caller lun sel num bs s (write-told caller lun sel num bs s a)
-counted (Update caller lun sel num bs) s b h a = omega (arith, update-free caller lun sel num bs s b (update-told caller lun sel num bs s a))
+counted (Read caller lun sel num fmt buf) s b h a = refl
+counted (Write caller lun sel num fmt bs) s b h a = free-write caller lun sel num _ s (write-told caller lun sel num fmt bs s a)
+counted (Update caller lun sel num fmt bs) s b h a = omega (arith, update-free caller lun sel num fmt bs s b (update-told caller lun sel num fmt bs s a))
 
 pub free-count : FreeCount
 free-count s b c n h =

@@ -1,7 +1,10 @@
 -- Everything that was asked for, proved.
+use Rattle.text.proofs.PackedText.{unpacked-packed, packed-one-one}
+use Rattle.text.proofs.PackedLength.{packed-shorter}
 use Rattle.records.proofs.RecordStreams.{streamOf-injective}
 use Rattle.promises.specs.Steps.{small-volume}
 use Rattle.promises.specs.Table.{table-differs}
+use Rattle.promises.specs.Texts.{samples-packed}
 use Rattle.promises.specs.Demands.{Demands}
 use Rattle.promises.proofs.Answers.{in-table, refusal-keeps, refused-exactly, unready-refused, one-outcome}
 use Rattle.promises.proofs.Sectors.{in-order}
@@ -16,6 +19,7 @@ use Rattle.promises.proofs.Updating.{accepted-update}
 use Rattle.promises.proofs.Preserved.{stays-good, stays-sound, runs-are-visits, other-files-kept, others-kept, frame-kept}
 use Rattle.promises.proofs.Lasting.{lasts-through, append-ends-none}
 use Rattle.promises.proofs.ReadBack.{written-is-read, written-sector-is-read, updated-is-read}
+use Rattle.promises.proofs.TextsKept.{written-text-is-read, updated-text-is-read, no-empty-byte, longest-text, run-by-run, option-ignored}
 use Rattle.promises.proofs.NeverPastEnd.{never-past-end}
 use Rattle.promises.proofs.Conclusions.{not-all-refused, not-all-done, not-unchanged, not-only-E, check-counts}
 
@@ -40,6 +44,8 @@ demands = record {
   written-is-read = written-is-read;
   written-sector-is-read = written-sector-is-read;
   updated-is-read = updated-is-read;
+  written-text-is-read = written-text-is-read;
+  updated-text-is-read = updated-text-is-read;
   never-past-end = never-past-end;
   runs-are-visits = runs-are-visits;
   refused-exactly = refused-exactly;
@@ -49,6 +55,14 @@ demands = record {
   sound-in-order = in-order;
   one-stream-each = streamOf-injective;
   others-kept = others-kept;
+  packed-reads-back = unpacked-packed;
+  no-two-stored-alike = packed-one-one;
+  never-longer = packed-shorter;
+  no-empty-byte = no-empty-byte;
+  longest-text = longest-text;
+  run-by-run = run-by-run;
+  samples-packed = samples-packed;
+  option-ignored = option-ignored;
   one-outcome = one-outcome;
   not-all-refused = not-all-refused;
   not-all-done = not-all-done;

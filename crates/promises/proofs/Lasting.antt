@@ -53,9 +53,9 @@ lasts-through img h k i f l (v ∷ vs) b n =
 -- the record that an append touches is the new one, whose number is the record count
 pub append-ends-none : AppendEndsNone
 unfolding fileOf touch ends
-append-ends-none s caller lun sel num bs h q k i l =
-    let T = write-told caller lun sel num bs s (accepted (Write caller lun sel num bs) s h) in
-    let A : Appending s lun (aimed s lun sel num) bs = appending caller lun sel num bs s T q in
+append-ends-none s caller lun sel num fmt bs h q k i l =
+    let T = write-told caller lun sel num fmt bs s (accepted (Write caller lun sel num fmt bs) s h) in
+    let A : Appending s lun (aimed s lun sel num) _ = appending caller lun sel num _ s T q in
     is-false _ (λ e.
     let p : slotHeld s lun ≡ k = eqb-true _ _ (and-left _ _ (and-left _ _ e)) in
     let m : aimed s lun sel num ≤ i = leb-true _ _ (and-right _ _ (and-left _ _ e)) in

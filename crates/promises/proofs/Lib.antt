@@ -19,6 +19,7 @@ pub mod Sectors
 pub mod Preserved
 pub mod Lasting
 pub mod ReadBack
+pub mod TextsKept
 pub mod NeverPastEnd
 pub mod Conclusions
 pub mod Formatted

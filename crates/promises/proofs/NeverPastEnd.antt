@@ -1,6 +1,6 @@
 -- As long as a record or sector lasts, no read of it is refused for want of it.
 use mathlib.Core.Path.{_≡_, ap, sym, _∙_}
-use mathlib.Core.Bool.{false, true≢false}
+use mathlib.Core.Bool.{Bool, false, true≢false}
 use mathlib.Core.List.{List, [], _∷_}
 use Prim.Native.Nat.{ℕ, zero, suc, _<_}
 use native.Mathlib.Omega.{arith}
@@ -31,17 +31,17 @@ never r [] k n f = let h : k < 0 = f .inside in omega arith
 never r (x ∷ xs) zero n f = true≢false (sym (f .applies) ∙ n .0 (ap code (f .is-rule)))
 never r (x ∷ xs) (suc k) n f = never r xs k (n .1) (first-later x xs k r f)
 
-not-past : (t : State) (caller lun sel num : ℕ) (buf : List ℕ) → aimed t lun sel num < extent (t .image) (fileOf t lun)
-    → Never PastEnd (rules (Read caller lun sel num buf) t)
+not-past : (t : State) (caller lun sel num : ℕ) (fmt : Bool) (buf : List ℕ) → aimed t lun sel num < extent (t .image) (fileOf t lun)
+    → Never PastEnd (rules (Read caller lun sel num fmt buf) t)
 unfolding Never rules openRules beginRules readRules ended
-not-past t caller lun sel num buf h =
+not-past t caller lun sel num fmt buf h =
     (λ q. absurd (omega arith), (λ q. absurd (omega arith), (λ q. absurd (omega arith), (λ q. absurd (omega arith), (λ q. lt-leb _ _ h, (λ q. absurd (omega arith), tt))))))
 
 pub never-past-end : NeverPastEnd
 unfolding fileOf
-never-past-end img h k i f l vs t B caller lun sel num buf ek ei a =
+never-past-end img h k i f l vs t B caller lun sel num fmt buf ek ei a =
     let L : Lasting img (t .image) k i = rw (B .reached) (lasts-through img h k i f l vs (B .are-bytes) (B .nothing-ends-it)) in
     let same : entryOf t lun ≡ entryAt img k = ap (entryAt (t .image)) ek ∙ L .same-entry in
     let there : aimed t lun sel num < extent (t .image) (entryOf t lun) = rw (ei, same) (L .still-there) in
-    let first-rule = refused-first (Read caller lun sel num buf) t PastEnd a in
-    never PastEnd (rules (Read caller lun sel num buf) t) (first-rule .0) (not-past t caller lun sel num buf there) (first-rule .1)
+    let first-rule = refused-first (Read caller lun sel num fmt buf) t PastEnd a in
+    never PastEnd (rules (Read caller lun sel num fmt buf) t) (first-rule .0) (not-past t caller lun sel num fmt buf there) (first-rule .1)

@@ -33,23 +33,23 @@ not-across v e i n q h =
     omega arith
 
 -- what an accepted write says of a contiguous file
-pub record Overwriting (s : State) (lun i : ℕ) (bs : List ℕ) : Type 0 where
+pub record Overwriting (s : State) (lun i : ℕ) (ss : List ℕ) : Type 0 where
   pub held-file : Held s lun
   pub runs : contiguous (entryOf s lun) ≡ true
-  pub in-sectors : Sectored (length bs)
-  pub inside : i + length bs / 256 ≤ size (entryOf s lun)
+  pub in-sectors : Sectored (length ss)
+  pub inside : i + length ss / 256 ≤ size (entryOf s lun)
 
-pub overwriting : (caller lun sel num : ℕ) (bs : List ℕ) (s : State) → WriteTold s caller lun sel num bs → contiguous (entryOf s lun) ≡ true
-    → Overwriting s lun (aimed s lun sel num) bs
+pub overwriting : (caller lun sel num : ℕ) (ss : List ℕ) (s : State) → WriteTold s caller lun sel num ss → contiguous (entryOf s lun) ≡ true
+    → Overwriting s lun (aimed s lun sel num) ss
 unfolding fileOf
-overwriting caller lun sel num bs s T q = record {
+overwriting caller lun sel num ss s T q = record {
   held-file = held-by s caller lun (T .opened .is-ready) (T .opened .is-mine);
   runs = q;
-  in-sectors = sectored (length bs) (run-length (entryOf s lun) bs q (T .long-ok));
-  inside = not-across (s .image) (entryOf s lun) (aimed s lun sel num) (length bs) q (T .inside);
+  in-sectors = sectored (length ss) (run-length (entryOf s lun) ss q (T .long-ok));
+  inside = not-across (s .image) (entryOf s lun) (aimed s lun sel num) (length ss) q (T .inside);
 }
 
-module _ (s : State) (lun i : ℕ) (bs : List ℕ) (O : Overwriting s lun i bs) where
+module _ (s : State) (lun i : ℕ) (ss : List ℕ) (O : Overwriting s lun i ss) where
   abbrev v : List ℕ
   v = s .image
 
@@ -60,34 +60,34 @@ module _ (s : State) (lun i : ℕ) (bs : List ℕ) (O : Overwriting s lun i bs) 
   e = entryOf s lun
 
   abbrev n : ℕ
-  n = length bs / 256
+  n = length ss / 256
 
   abbrev v′ : List ℕ
-  v′ = overwritten e i bs v
+  v′ = overwritten e i ss v
 
   abbrev H : Held s lun
   H = O .held-file
 
-  pub overwrite-entry : entryAt (overwritten (entryOf s lun) i bs (s .image)) (slotHeld s lun) ≡ entryOf s lun
-  overwrite-entry = overwritten-entry v (H .facts-of) k (H .slot-in) (H .lun-ok .used) (O .runs) i n bs (O .inside) (O .in-sectors .whole)
+  pub overwrite-entry : entryAt (overwritten (entryOf s lun) i ss (s .image)) (slotHeld s lun) ≡ entryOf s lun
+  overwrite-entry = overwritten-entry v (H .facts-of) k (H .slot-in) (H .lun-ok .used) (O .runs) i n ss (O .inside) (O .in-sectors .whole)
 
   -- a sector that was written, and one that was not
-  pub overwrite-here : (j : ℕ) → j < length bs / 256 → unitOf (overwritten (entryOf s lun) i bs (s .image)) (entryOf s lun) (i + j) ≡ part (256 * j) 256 bs
+  pub overwrite-here : (j : ℕ) → j < length ss / 256 → unitOf (overwritten (entryOf s lun) i ss (s .image)) (entryOf s lun) (i + j) ≡ part (256 * j) 256 ss
   overwrite-here j h =
       unit-sector v′ e (i + j) (O .runs)
       ∙ sym (sector-of e i n j v′ h)
-      ∙ ap (part (256 * j) 256) (overwritten-read v (H .facts-of) k (H .slot-in) (H .lun-ok .used) (O .runs) i n bs (O .inside) (O .in-sectors .whole))
+      ∙ ap (part (256 * j) 256) (overwritten-read v (H .facts-of) k (H .slot-in) (H .lun-ok .used) (O .runs) i n ss (O .inside) (O .in-sectors .whole))
 
-  pub overwrite-rewrites : Rewrites s lun bs (overwritten (entryOf s lun) i bs (s .image)) i (length bs / 256)
+  pub overwrite-rewrites : Rewrites s lun ss (overwritten (entryOf s lun) i ss (s .image)) i (length ss / 256)
   overwrite-rewrites = record {
     ws = _;
-    changed = overwritten-changed v (H .facts-of) k (H .slot-in) (H .lun-ok .used) (O .runs) i n bs (O .inside) (O .in-sectors .whole);
-    is-sound = overwritten-sound v (H .facts-of) k (H .slot-in) (H .lun-ok .used) (O .runs) i n bs (O .inside) (O .in-sectors .whole);
-    are-bytes = λ bi b. bytes-overwritten e i bs v b bi;
+    changed = overwritten-changed v (H .facts-of) k (H .slot-in) (H .lun-ok .used) (O .runs) i n ss (O .inside) (O .in-sectors .whole);
+    is-sound = overwritten-sound v (H .facts-of) k (H .slot-in) (H .lun-ok .used) (O .runs) i n ss (O .inside) (O .in-sectors .whole);
+    are-bytes = λ bi b. bytes-overwritten e i ss v b bi;
     as-long = omega (arith, extent-run v e (O .runs), extent-run v′ e (O .runs));
     place = place-run v′ e i n (O .runs) (O .in-sectors .some) (O .in-sectors .few) (O .inside);
     elsewhere = λ u l h.
         unit-sector v′ e u (O .runs)
-        ∙ overwritten-others v (H .facts-of) k (H .slot-in) (H .lun-ok .used) (O .runs) i n bs (O .inside) (O .in-sectors .whole) u 1 h
+        ∙ overwritten-others v (H .facts-of) k (H .slot-in) (H .lun-ok .used) (O .runs) i n ss (O .inside) (O .in-sectors .whole) u 1 h
         ∙ sym (unit-sector v e u (O .runs));
   }

@@ -38,9 +38,9 @@ preserved (Assign caller lun desc mode end) s b a = preserves-assign caller lun 
 preserved (Close caller lun) s b a = preserves-close [] lun s
 preserved (Rewind caller lun) s b a = preserves-rewind [] caller lun s (rewind-told caller lun s a)
 preserved (Delete caller desc) s b a = preserves-delete caller desc s (delete-told caller desc s a) b
-preserved (Read caller lun sel num buf) s b a = preserves-read caller lun sel num buf s (read-told caller lun sel num buf s a) []
-preserved (Write caller lun sel num bs) s b a = preserves-write caller lun sel num bs s (write-told caller lun sel num bs s a) b
-preserved (Update caller lun sel num bs) s b a = preserves-update caller lun sel num bs s b (update-told caller lun sel num bs s a)
+preserved (Read caller lun sel num fmt buf) s b a = preserves-read caller lun sel num fmt buf s (read-told caller lun sel num fmt buf s a) []
+preserved (Write caller lun sel num fmt bs) s b a = preserves-write caller lun sel num fmt bs s (write-told caller lun sel num fmt bs s a) b
+preserved (Update caller lun sel num fmt bs) s b a = preserves-update caller lun sel num fmt bs s b (update-told caller lun sel num fmt bs s a)
 
 -- any call, refused or accepted
 pub preserves-next : (c : Call) (s : State) → Bytes (s .image) → Preserves (sent c) (touch c s) s (next c s)
@@ -56,9 +56,9 @@ other-files-kept s b c k f h = preserves-next c s b .others k f h
 
 pub others-kept : OthersKept
 unfolding touch changes
-others-kept s b caller lun sel num bs k f n =
+others-kept s b caller lun sel num fmt bs k f n =
     let h = ne-eqb (slotHeld s lun) k (λ p. n (sym p)) in
-    (other-files-kept s b (Write caller lun sel num bs) k f h, other-files-kept s b (Update caller lun sel num bs) k f h)
+    (other-files-kept s b (Write caller lun sel num fmt bs) k f h, other-files-kept s b (Update caller lun sel num fmt bs) k f h)
 
 -- only format touches everything
 touches-less : (c : Call) (s : State) → NoFormat c → remakes (touch c s) ≡ false
@@ -70,9 +70,9 @@ touches-less (Assign caller lun desc mode end) s h = refl
 touches-less (Close caller lun) s h = refl
 touches-less (Rewind caller lun) s h = refl
 touches-less (Delete caller desc) s h = refl
-touches-less (Read caller lun sel num buf) s h = refl
-touches-less (Write caller lun sel num bs) s h = refl
-touches-less (Update caller lun sel num bs) s h = refl
+touches-less (Read caller lun sel num fmt buf) s h = refl
+touches-less (Write caller lun sel num fmt bs) s h = refl
+touches-less (Update caller lun sel num fmt bs) s h = refl
 
 pub frame-kept : FrameKept
 unfolding next

@@ -45,6 +45,16 @@ pub record Preserves (bs : List ℕ) (w : Touch) (s t : State) : Type 0 where
   pub units : (k i : ℕ) → File (s .image) k → i < extent (s .image) (entryAt (s .image) k) → ends w k i ≡ false → Lasting (s .image) (t .image) k i
   pub frame : remakes w ≡ false → SameFrame (s .image) (t .image)
 
+-- what was sent is bytes, and so is what is stored of it
+pub preserves-sent : (bs ss : List ℕ) (w : Touch) (s t : State) → (Bytes bs → Bytes ss) → Preserves ss w s t → Preserves bs w s t
+preserves-sent bs ss w s t f P = record {
+  sound-after = λ b. P .sound-after (f b);
+  good-after = λ b. P .good-after (f b);
+  others = P .others;
+  units = P .units;
+  frame = P .frame;
+}
+
 -- the image stays
 pub preserves-desk : (bs : List ℕ) (w : Touch) (s : State) (d : Desk) → (Good s → Good (state (s .image) d)) → Preserves bs w s (state (s .image) d)
 preserves-desk bs w s d g = record {

@@ -1,6 +1,6 @@
 -- What was written is read back: the accepted write or update, the visits between, and the accepted read together.
 use mathlib.Core.Path.{_≡_, ap, sym, _∙_}
-use mathlib.Core.Bool.{true, false}
+use mathlib.Core.Bool.{Bool, true, false}
 use mathlib.Core.List.{List, [], _++_}
 use Prim.Native.Nat.{ℕ, _+_, _*_, _/_, _<_, _≤_}
 use native.Mathlib.Omega.{arith}
@@ -9,15 +9,17 @@ use lib.Seq.{getD-set-same, drop-append-le, take-append-le}
 use Rattle.lists.specs.Parts.{part, over}
 use Rattle.volume.specs.Directory.{entryAt, unused, contiguous}
 use Rattle.files.specs.Files.{extent, records, recordAt}
+use Rattle.work.specs.Transfers.{storedAs, handedAs}
+use Rattle.work.proofs.TextRules.{stored-run}
 use Rattle.desk.specs.Desk.{State, aimed, fileOf}
 use Rattle.desk.specs.Answers.{moved}
-use Rattle.desk.specs.Calls.{Call, Write, Update, Read, step, sent}
+use Rattle.desk.specs.Calls.{Call, Write, Update, step, sent}
 use Rattle.desk.specs.declared.Report.the-variants.{Moved}
 use Rattle.desk.specs.declared.Answer.the-variants.{Done}
 use Rattle.promises.specs.Runs.{Visit}
 use Rattle.promises.specs.Sectors.{Bytes, Sound, Accepts}
 use Rattle.promises.specs.Contents.{unitOf, unitAt, slotHeld, Wrote, Updated}
-use Rattle.promises.specs.Lasting.{Lasting, Between, WrittenIsRead, UpdatedIsRead, WrittenSectorIsRead}
+use Rattle.promises.specs.Lasting.{Lasting, Between, HandsBack, WrittenIsRead, UpdatedIsRead, WrittenSectorIsRead}
 use Rattle.promises.proofs.Passing.{accepted}
 use Rattle.promises.proofs.Told.{WriteTold, write-told, update-told}
 use Rattle.promises.proofs.Units.{extent-run, extent-records, unit-record, record-last, file-after}
@@ -39,23 +41,24 @@ still v v′ k i u e h x vs w B =
     (L .same-entry ∙ e, L .same-unit)
 
 -- a read of a record that is there
-record-read : (t : State) (k i : ℕ) (e bs : List ℕ) → entryAt (t .image) k ≡ e → contiguous e ≡ false → unitAt (t .image) k i ≡ bs
-    → (caller lun sel num : ℕ) (buf : List ℕ) → Accepts (Read caller lun sel num buf) t → slotHeld t lun ≡ k → aimed t lun sel num ≡ i
-    → (step (Read caller lun sel num buf) t .buffer ≡ over bs buf) × (step (Read caller lun sel num buf) t .answer ≡ Done (Moved (length bs)))
+record-read : (t : State) (k i : ℕ) (e ss : List ℕ) → entryAt (t .image) k ≡ e → contiguous e ≡ false → unitAt (t .image) k i ≡ ss → HandsBack t e k i ss
 unfolding fileOf
-record-read t k i e bs same q u caller lun sel num buf r ek ei =
-    let R = accepted-read t caller lun sel num buf r in
+record-read t k i e ss same q u fmt caller lun sel num buf r ek ei =
+    let R = accepted-read t caller lun sel num fmt buf r in
     let its : entryOf t lun ≡ e = ap (entryAt (t .image)) ek ∙ same in
-    let is : R .0 ≡ bs =
+    let is : R .0 ≡ handedAs fmt e ss =
     R .1 .one-record (ap contiguous its ∙ q) .0
-    ∙ ap (λ (m : ℕ). unitAt (t .image) m (aimed t lun sel num)) ek
-    ∙ ap (unitAt (t .image) k) ei
-    ∙ u in
+    ∙ ap (λ (x : List ℕ). handedAs fmt x (unitAt (t .image) (slotHeld t lun) (aimed t lun sel num))) its
+    ∙ ap (λ (m : ℕ). handedAs fmt e (unitAt (t .image) m (aimed t lun sel num))) ek
+    ∙ ap (λ (m : ℕ). handedAs fmt e (unitAt (t .image) k m)) ei
+    ∙ ap (handedAs fmt e) u in
     (R .1 .buffer-has ∙ ap (λ (x : List ℕ). over x buf) is, R .1 .answered ∙ ap (λ (x : List ℕ). Done (Moved (length x))) is)
 
-module _ (s : State) (bi : Bytes (s .image)) (caller lun sel num : ℕ) (bs : List ℕ) (b : Bytes bs) (h : Accepts (Write caller lun sel num bs) s) where
+module _
+    (s : State) (bi : Bytes (s .image)) (caller lun sel num : ℕ) (fmt : Bool) (bs : List ℕ) (b : Bytes bs)
+    (h : Accepts (Write caller lun sel num fmt bs) s) where
   abbrev c : Call
-  c = Write caller lun sel num bs
+  c = Write caller lun sel num fmt bs
 
   abbrev v′ : List ℕ
   v′ = step c s .image
@@ -69,11 +72,16 @@ module _ (s : State) (bi : Bytes (s .image)) (caller lun sel num : ℕ) (bs : Li
   abbrev i : ℕ
   i = aimed s lun sel num
 
-  wrote : Wrote s (step c s) lun i bs
-  wrote = accepted-write s caller lun sel num bs h
+  abbrev ss : List ℕ
+  ss = storedAs fmt e bs
 
-  told : WriteTold s caller lun sel num bs
-  told = write-told caller lun sel num bs s (accepted c s h)
+  wrote : Wrote s (step c s) lun i bs ss
+  unfolding fileOf
+  wrote = accepted-write s caller lun sel num fmt bs h
+
+  told : WriteTold s caller lun sel num ss
+  unfolding fileOf
+  told = write-told caller lun sel num fmt bs s (accepted c s h)
 
   sound-after : Sound v′
   unfolding sent
@@ -81,22 +89,22 @@ module _ (s : State) (bi : Bytes (s .image)) (caller lun sel num : ℕ) (bs : Li
 
   -- the record appended
   module _ (q : contiguous (entryOf s lun) ≡ false) where
-    A : Appending s lun i bs
-    A = appending caller lun sel num bs s told q
+    A : Appending s lun i ss
+    A = appending caller lun sel num ss s told q
 
-    unit-appended : unitAt v′ k i ≡ bs
+    unit-appended : unitAt v′ k i ≡ ss
     unfolding fileOf
     unit-appended =
         ap (λ (x : List ℕ). unitOf v′ x i) (wrote .entry-same)
         ∙ unit-record v′ e i q
-        ∙ record-last (s .image) v′ e i bs (wrote .appended-record q .0) (wrote .appended-record q .1)
+        ∙ record-last (s .image) v′ e i ss (wrote .appended-record q .0) (wrote .appended-record q .1)
 
     record-there : i < extent v′ e
     unfolding fileOf
     record-there = omega (arith, A .at-end, extent-records v′ e q, simp length-append at (ap length (wrote .appended-record q .1)))
 
-    pub record-still : (vs : List Visit) (w : List ℕ) → Between (step (Write caller lun sel num bs) s .image) (slotHeld s lun) (aimed s lun sel num) vs w
-        → (entryAt w (slotHeld s lun) ≡ entryOf s lun) × (unitAt w (slotHeld s lun) (aimed s lun sel num) ≡ bs)
+    pub record-still : (vs : List Visit) (w : List ℕ) → Between (step (Write caller lun sel num fmt bs) s .image) (slotHeld s lun) (aimed s lun sel num) vs w
+        → (entryAt w (slotHeld s lun) ≡ entryOf s lun) × (unitAt w (slotHeld s lun) (aimed s lun sel num) ≡ storedAs fmt (entryOf s lun) bs)
     unfolding fileOf
     record-still vs w B =
         let S = still (s .image) v′ k i (A .held-file .lun-ok .used) (wrote .entry-same) sound-after record-there vs w B in
@@ -104,44 +112,52 @@ module _ (s : State) (bi : Bytes (s .image)) (caller lun sel num : ℕ) (bs : Li
 
   -- a sector written
   pub sector-still : contiguous (entryOf s lun) ≡ true → (j : ℕ) → j < length bs / 256 → (vs : List Visit) (w : List ℕ)
-      → Between (step (Write caller lun sel num bs) s .image) (slotHeld s lun) (aimed s lun sel num + j) vs w
+      → Between (step (Write caller lun sel num fmt bs) s .image) (slotHeld s lun) (aimed s lun sel num + j) vs w
       → (entryAt w (slotHeld s lun) ≡ entryOf s lun) × (unitAt w (slotHeld s lun) (aimed s lun sel num + j) ≡ part (256 * j) 256 bs)
   unfolding fileOf
   sector-still q j l vs w B =
-      let O : Overwriting s lun i bs = overwriting caller lun sel num bs s told q in
-      let x : i + j < extent v′ e = omega (arith, O .inside, extent-run v′ e q) in
-      let S = still (s .image) v′ k (i + j) (O .held-file .lun-ok .used) (wrote .entry-same) sound-after x vs w B in
-      (S .0, S .1 ∙ ap (λ (x : List ℕ). unitOf v′ x (i + j)) (wrote .entry-same) ∙ wrote .sectors-written q j l)
+      let same : ss ≡ bs = stored-run fmt e bs q in
+      let l′ : j < length ss / 256 = rw same l in
+      let O : Overwriting s lun i ss = overwriting caller lun sel num ss s told q in
+      let x : i + j < extent v′ e = omega (arith, l′, O .inside, extent-run v′ e q) in
+      let S = still (s .image) v′ k (i + j) (O .held-file .lun-ok .used) (wrote .entry-same) sound-after x vs w B in (
+        S .0,
+        S .1
+            ∙ ap (λ (x : List ℕ). unitOf v′ x (i + j)) (wrote .entry-same)
+            ∙ wrote .sectors-written q j l′
+            ∙ ap (part (256 * j) 256) same,
+      )
 
 pub written-is-read : WrittenIsRead
 unfolding fileOf
-written-is-read s bi caller lun sel num bs b h q vs t B caller′ lun′ sel′ num′ buf r ek ei =
-    let S = record-still s bi caller lun sel num bs b h q vs (t .image) B in
-    record-read t (slotHeld s lun) (aimed s lun sel num) (entryOf s lun) bs (S .0) q (S .1) caller′ lun′ sel′ num′ buf r ek ei
+written-is-read s bi caller lun sel num fmt bs b h q vs t B =
+    let S = record-still s bi caller lun sel num fmt bs b h q vs (t .image) B in
+    record-read t (slotHeld s lun) (aimed s lun sel num) (entryOf s lun) (storedAs fmt (entryOf s lun) bs) (S .0) q (S .1)
 
 -- the record updated
 pub updated-is-read : UpdatedIsRead
 unfolding sent recordAt fileOf
-updated-is-read s bi caller lun sel num bs b h vs t B caller′ lun′ sel′ num′ buf r ek ei =
-    let c : Call = Update caller lun sel num bs in
+updated-is-read s bi caller lun sel num fmt bs b h vs t B =
+    let c : Call = Update caller lun sel num fmt bs in
     let k : ℕ = slotHeld s lun in
     let i : ℕ = aimed s lun sel num in
     let e : List ℕ = entryOf s lun in
+    let ss : List ℕ = storedAs fmt e bs in
     let v′ : List ℕ = step c s .image in
-    let T = update-told caller lun sel num bs s (accepted c s h) in
+    let T = update-told caller lun sel num fmt bs s (accepted c s h) in
     let H : Held s lun = held-by s caller lun (T .opened .is-ready) (T .opened .is-mine) in
-    let U : Updated s (step c s) lun i bs = accepted-update s bi caller lun sel num bs h in
+    let U : Updated s (step c s) lun i bs ss = accepted-update s bi caller lun sel num fmt bs h in
     let q : contiguous e ≡ false = U .sequential in
     let there : i < extent v′ e =
-    omega (arith, U .there, extent-records v′ e q, ap length (U .replaced), length-set (records (s .image) e) i bs) in
+    omega (arith, U .there, extent-records v′ e q, ap length (U .replaced), length-set (records (s .image) e) i ss) in
     let sound-after : Sound v′ = sound-next c s (record { is-sound = ready-sound s (T .opened .is-ready); is-bytes = bi }) b in
     let S = still (s .image) v′ k i (H .lun-ok .used) (U .entry-same) sound-after there vs (t .image) B in
-    let new : unitAt v′ k i ≡ bs =
+    let new : unitAt v′ k i ≡ ss =
     ap (λ (x : List ℕ). unitOf v′ x i) (U .entry-same)
     ∙ unit-record v′ e i q
     ∙ ap (λ (rs : List (List ℕ)). getD rs i []) (U .replaced)
-    ∙ getD-set-same (records (s .image) e) i bs [] (U .there) in
-    record-read t k i e bs (S .0) q (S .1 ∙ new) caller′ lun′ sel′ num′ buf r ek ei
+    ∙ getD-set-same (records (s .image) e) i ss [] (U .there) in
+    record-read t k i e ss (S .0) q (S .1 ∙ new)
 
 -- a sector of a buffer that begins with what was handed over
 sector-over : (a : ℕ) (bs buf : List ℕ) → 256 * a + 256 ≤ length bs → part (256 * a) 256 (over bs buf) ≡ part (256 * a) 256 bs
@@ -153,10 +169,10 @@ sector-over a bs buf h =
 
 pub written-sector-is-read : WrittenSectorIsRead
 unfolding fileOf
-written-sector-is-read s bi caller lun sel num bs b h q j l vs t B caller′ lun′ sel′ num′ buf r ek a ei m =
+written-sector-is-read s bi caller lun sel num fmt bs b h q j l vs t B caller′ lun′ sel′ num′ fmt′ buf r ek a ei m =
     let k : ℕ = slotHeld s lun in
-    let S = sector-still s bi caller lun sel num bs b h q j l vs (t .image) B in
-    let R = accepted-read t caller′ lun′ sel′ num′ buf r in
+    let S = sector-still s bi caller lun sel num fmt bs b h q j l vs (t .image) B in
+    let R = accepted-read t caller′ lun′ sel′ num′ fmt′ buf r in
     let its : entryOf t lun′ ≡ entryOf s lun = ap (entryAt (t .image)) ek ∙ S .0 in
     let q′ : contiguous (entryOf t lun′) ≡ true = ap contiguous its ∙ q in
     let inside : 256 * a < length (R .0) = rw (ap moved (R .1 .answered)) at m in

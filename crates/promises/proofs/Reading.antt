@@ -15,7 +15,7 @@ use Rattle.files.specs.Files.{recordAt, extent}
 use Rattle.keeping.proofs.OverwriteKeeps.{run-inside}
 use Rattle.luns.specs.declared.Place.the-variants.{At}
 use Rattle.luns.specs.Luns.{placeExists}
-use Rattle.work.specs.Transfers.{Moving, readable, dataAt, units, moving, reading}
+use Rattle.work.specs.Transfers.{Moving, handedAs, readable, dataAt, units, moving, reading}
 use Rattle.desk.specs.Desk.{State, fileOf, aimed}
 use Rattle.desk.specs.Calls.{Nothing, after, Read, transferred, done}
 use Rattle.desk.proofs.DeskFitting.{moved-fitting}
@@ -66,15 +66,15 @@ readable-least v e i m q l = go (leb (i + m / 256) (size e)) refl
         rw (p, lt-leb (m / 256) (extent v e - i) x, extent-run v e q)
 
 -- the data, by the kind of the file
-data-record : (v e : List ℕ) (i n : ℕ) → contiguous e ≡ false → dataAt v e i n ≡ recordAt v e i
+data-record : (v e : List ℕ) (i : ℕ) (fmt : Bool) (n : ℕ) → contiguous e ≡ false → dataAt v e i fmt n ≡ handedAs fmt e (recordAt v e i)
 unfolding dataAt
-data-record v e i n q = rw q
+data-record v e i fmt n q = rw q
 
-data-run : (v e : List ℕ) (i n : ℕ) → contiguous e ≡ true → dataAt v e i n ≡ sectorsAt e i (readable e i n) v
+data-run : (v e : List ℕ) (i : ℕ) (fmt : Bool) (n : ℕ) → contiguous e ≡ true → dataAt v e i fmt n ≡ sectorsAt e i (readable e i n) v
 unfolding dataAt
-data-run v e i n q = rw q
+data-run v e i fmt n q = rw q
 
-module _ (caller lun sel num : ℕ) (buf : List ℕ) (s : State) (T : ReadTold s caller lun sel num (length buf)) where
+module _ (caller lun sel num : ℕ) (fmt : Bool) (buf : List ℕ) (s : State) (T : ReadTold s caller lun sel num fmt (length buf)) where
   abbrev v : List ℕ
   v = s .image
 
@@ -99,28 +99,28 @@ module _ (caller lun sel num : ℕ) (buf : List ℕ) (s : State) (T : ReadTold s
   unfolding fileOf
   run-readable q = readable-is e i (length buf) (omega (arith, there, extent-run v e q)) (sectored (length buf) (T .long-ok q) .some)
 
-  run-length : contiguous e ≡ true → length (dataAt v e i (length buf)) ≡ 256 * r
+  run-length : contiguous e ≡ true → length (dataAt v e i fmt (length buf)) ≡ 256 * r
   run-length q =
       let w : start e + size e ≤ sectors v = run-inside v (H .facts-of) (slotHeld s lun) (H .slot-in) (H .lun-ok .used) q 0 0 [] (omega arith) refl in
-      ap length (data-run v e i (length buf) q) ∙ length-sectorsAt v e i r (omega (arith, run-readable q .inside, H .facts-of .long))
+      ap length (data-run v e i fmt (length buf) q) ∙ length-sectorsAt v e i r (omega (arith, run-readable q .inside, H .facts-of .long))
 
   -- the place after it
-  place-after : placeExists v e (At i (units e (length (dataAt v e i (length buf))))) ≡ true
+  place-after : placeExists v e (At i (units e (length (dataAt v e i fmt (length buf))))) ≡ true
   unfolding fileOf
   place-after = go (contiguous e) refl
     where
-      go : (b : Bool) → contiguous e ≡ b → placeExists v e (At i (units e (length (dataAt v e i (length buf))))) ≡ true
+      go : (b : Bool) → contiguous e ≡ b → placeExists v e (At i (units e (length (dataAt v e i fmt (length buf))))) ≡ true
       go true q =
           let R = run-readable q in
-          let n : length (dataAt v e i (length buf)) / 256 ≡ r = omega (arith, run-length q) in
-          rw (units-run e (length (dataAt v e i (length buf))) q, n)
+          let n : length (dataAt v e i fmt (length buf)) / 256 ≡ r = omega (arith, run-length q) in
+          rw (units-run e (length (dataAt v e i fmt (length buf))) q, n)
           (place-run v e i r q (R .at-least) (omega (arith, R .at-most, sectored (length buf) (T .long-ok q) .few)) (R .inside))
-      go false q = rw (units-one e (length (dataAt v e i (length buf))) q) (place-one v e i q there)
+      go false q = rw (units-one e (length (dataAt v e i fmt (length buf))) q) (place-one v e i q there)
 
   abbrev readAt : Moving
-  readAt = reading v (fileOf s lun) i buf
+  readAt = reading v (fileOf s lun) i fmt buf
 
-  pub preserves-read : (bs : List ℕ) → Preserves bs Nothing s (transferredTo s lun (reading (s .image) (fileOf s lun) (aimed s lun sel num) buf))
+  pub preserves-read : (bs : List ℕ) → Preserves bs Nothing s (transferredTo s lun (reading (s .image) (fileOf s lun) (aimed s lun sel num) fmt buf))
   unfolding after reading moving fileOf
   preserves-read bs =
       preserves-desk bs Nothing s (after (s .desk) lun readAt) (λ g.
@@ -128,10 +128,10 @@ module _ (caller lun sel num : ℕ) (buf : List ℕ) (s : State) (T : ReadTold s
 
   -- what it hands over
   abbrev bs : List ℕ
-  bs = dataAt v e i (length buf)
+  bs = dataAt v e i fmt (length buf)
 
   sector-read : contiguous e ≡ true → (j : ℕ) → 256 * j < length bs → part (256 * j) 256 bs ≡ sectorsAt e (i + j) 1 v
-  sector-read q j l = ap (part (256 * j) 256) (data-run v e i (length buf) q) ∙ sector-of e i r j v (omega (arith, run-length q))
+  sector-read q j l = ap (part (256 * j) 256) (data-run v e i fmt (length buf) q) ∙ sector-of e i r j v (omega (arith, run-length q))
 
   fits-in : length bs ≤ length buf
   unfolding fileOf
@@ -139,24 +139,24 @@ module _ (caller lun sel num : ℕ) (buf : List ℕ) (s : State) (T : ReadTold s
     where
       go : (b : Bool) → contiguous e ≡ b → length bs ≤ length buf
       go true q = omega (arith, run-length q, run-readable q .at-most)
-      go false q = rw (data-record v e i (length buf) q) (T .holds-it q)
+      go false q = rw (data-record v e i fmt (length buf) q) (T .holds-it q)
 
-  hands-over : HandedOver s (carried (Read caller lun sel num buf) s) lun (aimed s lun sel num) buf
-      (dataAt (s .image) (entryOf s lun) (aimed s lun sel num) (length buf))
+  hands-over : HandedOver s (carried (Read caller lun sel num fmt buf) s) lun (aimed s lun sel num) fmt buf
+      (dataAt (s .image) (entryOf s lun) (aimed s lun sel num) fmt (length buf))
   unfolding fileOf done transferred reading moving
   hands-over = record {
     answered = refl;
     image-kept = refl;
     room = fits-in;
     buffer-has = refl;
-    one-record = λ q. (data-record v e i (length buf) q ∙ sym (unit-record v e i q), only-moved s lun readAt 1 (units-one e (length bs) q) H);
+    one-record = λ q. (data-record v e i fmt (length buf) q ∙ ap (handedAs fmt e) (sym (unit-record v e i q)), only-moved s lun readAt 1 (units-one e (length bs) q) H);
     how-many = λ q. run-length q ∙ ap (λ (m : ℕ). 256 * m) (readable-least v e i (length buf) q there);
     each-sector = λ q j l. sector-read q j l ∙ sym (unit-sector v e (i + j) q);
     sectors-moved = λ q. only-moved s lun readAt (length bs / 256) (units-run e (length bs) q) H;
   }
 
 pub accepted-read : AcceptedRead
-accepted-read s caller lun sel num buf h =
-    let a = accepted (Read caller lun sel num buf) s h in
-    let T = read-told caller lun sel num buf s a in
-    (dataAt (s .image) (entryOf s lun) (aimed s lun sel num) (length buf), rw (a .is) (hands-over caller lun sel num buf s T))
+accepted-read s caller lun sel num fmt buf h =
+    let a = accepted (Read caller lun sel num fmt buf) s h in
+    let T = read-told caller lun sel num fmt buf s a in
+    (dataAt (s .image) (entryOf s lun) (aimed s lun sel num) fmt (length buf), rw (a .is) (hands-over caller lun sel num fmt buf s T))

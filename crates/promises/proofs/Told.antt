@@ -21,8 +21,10 @@ use Rattle.luns.specs.Modes.{modeOf, writes, reads}
 use Rattle.luns.specs.Luns.{agree, isHeld, placeless}
 use Rattle.luns.specs.declared.Mode.{Mode}
 use Rattle.work.specs.Volumes.{formatRules, exists, sized, allocateRules, placeRules, namedRules, slotOf}
-use Rattle.work.specs.Transfers.{oddLength, ended, readRules, wrongLength, beyond, roomRules, writeRules, updateRules}
+use Rattle.work.specs.Transfers.{oddLength, ended, storedAs, handedAs, unfit, readRules, wrongLength, beyond, roomRules, storeRules, writeRules}
+use Rattle.work.specs.Transfers.{replaceRules, updateRules}
 use Rattle.work.proofs.Rules.{Passes, passes-append}
+use Rattle.work.proofs.TextRules.{stored-fit}
 use Rattle.desk.specs.Desk.{State, ready, spare, mine, lunAt, fileOf, aimed}
 use Rattle.desk.specs.Calls.{beginRules, Format, rules, Allocate, newLun, Assign, seatOf, seatRules, assignRules, Close, Rewind, Delete, removeRules, deleteRules, openRules, Read}
 use Rattle.desk.specs.Calls.{Write}
@@ -178,15 +180,17 @@ unfolding _and_
 unless a b h q = rw q at h
 
 -- Read: of the file with entry e, from its unit i on, into n bytes
-pub record ReadTold (s : State) (caller lun sel num n : ℕ) : Type 0 where
+pub record ReadTold (s : State) (caller lun sel num : ℕ) (fmt : Bool) (n : ℕ) : Type 0 where
   pub opened : OpenTold reads s caller lun sel
   pub long-ok : contiguous (fileOf s lun) ≡ true → oddLength n ≡ false
   pub there : aimed s lun sel num < extent (s .image) (fileOf s lun)
-  pub holds-it : contiguous (fileOf s lun) ≡ false → length (recordAt (s .image) (fileOf s lun) (aimed s lun sel num)) ≤ n
+  pub holds-it : contiguous (fileOf s lun) ≡ false
+      → length (handedAs fmt (fileOf s lun) (recordAt (s .image) (fileOf s lun) (aimed s lun sel num))) ≤ n
 
-pub read-told : (caller lun sel num : ℕ) (buf : List ℕ) (s : State) → Accepted (Read caller lun sel num buf) s → ReadTold s caller lun sel num (length buf)
+pub read-told : (caller lun sel num : ℕ) (fmt : Bool) (buf : List ℕ) (s : State) → Accepted (Read caller lun sel num fmt buf) s
+    → ReadTold s caller lun sel num fmt (length buf)
 unfolding rules readRules ended
-read-told caller lun sel num buf s a =
+read-told caller lun sel num fmt buf s a =
     let (opening, (badLength, (pastEnd, (tooShort, none)))) = passes-append (openRules reads s caller lun sel) _ (a .passes) in
     record {
       opened = open-told reads s caller lun sel opening;
@@ -195,44 +199,54 @@ read-told caller lun sel num buf s a =
       holds-it = λ q. ltb-false _ _ (unless _ _ tooShort q);
     }
 
--- Write: the bytes bs
-pub record WriteTold (s : State) (caller lun sel num : ℕ) (bs : List ℕ) : Type 0 where
+-- Write: what is stored, ss
+pub record WriteTold (s : State) (caller lun sel num : ℕ) (ss : List ℕ) : Type 0 where
   pub opened : OpenTold writes s caller lun sel
-  pub long-ok : wrongLength (fileOf s lun) bs ≡ false
-  pub inside : beyond (s .image) (fileOf s lun) (aimed s lun sel num) (length bs) ≡ false
+  pub long-ok : wrongLength (fileOf s lun) ss ≡ false
+  pub inside : beyond (s .image) (fileOf s lun) (aimed s lun sel num) (length ss) ≡ false
   pub is-new : contiguous (fileOf s lun) ≡ false → extent (s .image) (fileOf s lun) ≤ aimed s lun sel num
-  pub enough : contiguous (fileOf s lun) ≡ false → needed (s .image) (fileOf s lun) bs ≤ free (s .image)
-  pub few : contiguous (fileOf s lun) ≡ false → length (newPairs (s .image) (fileOf s lun) bs) ≤ mostSegments
+  pub enough : contiguous (fileOf s lun) ≡ false → needed (s .image) (fileOf s lun) ss ≤ free (s .image)
+  pub few : contiguous (fileOf s lun) ≡ false → length (newPairs (s .image) (fileOf s lun) ss) ≤ mostSegments
 
-pub write-told : (caller lun sel num : ℕ) (bs : List ℕ) (s : State) → Accepted (Write caller lun sel num bs) s → WriteTold s caller lun sel num bs
-unfolding rules writeRules roomRules
-write-told caller lun sel num bs s a =
-    let (opening, (badLength, (pastEnd, (thereAlready, (noRoom, (noSegment, none)))))) = passes-append (openRules writes s caller lun sel) _ (a .passes) in
-    record {
-      opened = open-told writes s caller lun sel opening;
-      long-ok = badLength;
-      inside = pastEnd;
-      is-new = λ q. ltb-false _ _ (unless _ _ thereAlready q);
-      enough = λ q. ltb-false _ _ (unless _ _ noRoom q);
-      few = λ q. ltb-false _ _ (unless _ _ noSegment q);
-    }
+module _ (caller lun sel num : ℕ) (fmt : Bool) (bs : List ℕ) (s : State) (a : Accepted (Write caller lun sel num fmt bs) s) where
+  pub write-fit : unfit fmt (fileOf s lun) bs ≡ false
+  unfolding rules writeRules
+  write-fit = passes-append (openRules writes s caller lun sel) _ (a .passes) .1 .0
 
--- Update: by the bytes bs
-pub record UpdateTold (s : State) (caller lun sel num : ℕ) (bs : List ℕ) : Type 0 where
+  pub write-told : WriteTold s caller lun sel num (storedAs fmt (fileOf s lun) bs)
+  unfolding rules writeRules storeRules roomRules
+  write-told =
+      let (opening, (badLength, (pastEnd, (thereAlready, (noRoom, (noSegment, none)))))) = passes-append (openRules writes s caller lun sel) _ (a .passes) in
+      record {
+        opened = open-told writes s caller lun sel opening;
+        long-ok = stored-fit fmt (fileOf s lun) bs badLength;
+        inside = pastEnd;
+        is-new = λ q. ltb-false _ _ (unless _ _ thereAlready q);
+        enough = λ q. ltb-false _ _ (unless _ _ noRoom q);
+        few = λ q. ltb-false _ _ (unless _ _ noSegment q);
+      }
+
+-- Update: by what is stored, ss
+pub record UpdateTold (s : State) (caller lun sel num : ℕ) (ss : List ℕ) : Type 0 where
   pub opened : OpenTold writes s caller lun sel
   pub sequential : contiguous (fileOf s lun) ≡ false
-  pub long-ok : wrongLength (fileOf s lun) bs ≡ false
+  pub long-ok : wrongLength (fileOf s lun) ss ≡ false
   pub there : aimed s lun sel num < extent (s .image) (fileOf s lun)
-  pub same-length : length bs ≡ length (recordAt (s .image) (fileOf s lun) (aimed s lun sel num))
+  pub same-length : length ss ≡ length (recordAt (s .image) (fileOf s lun) (aimed s lun sel num))
 
-pub update-told : (caller lun sel num : ℕ) (bs : List ℕ) (s : State) → Accepted (Update caller lun sel num bs) s → UpdateTold s caller lun sel num bs
-unfolding rules updateRules ended
-update-told caller lun sel num bs s a =
-    let (opening, (badRequest, (badLength, (pastEnd, (otherLength, none))))) = passes-append (openRules writes s caller lun sel) _ (a .passes) in
-    record {
-      opened = open-told writes s caller lun sel opening;
-      sequential = badRequest;
-      long-ok = badLength;
-      there = leb-false _ _ pastEnd;
-      same-length = eqb-true _ _ (not-false _ otherLength);
-    }
+module _ (caller lun sel num : ℕ) (fmt : Bool) (bs : List ℕ) (s : State) (a : Accepted (Update caller lun sel num fmt bs) s) where
+  pub update-fit : unfit fmt (fileOf s lun) bs ≡ false
+  unfolding rules updateRules
+  update-fit = passes-append (openRules writes s caller lun sel) _ (a .passes) .1 .1 .0
+
+  pub update-told : UpdateTold s caller lun sel num (storedAs fmt (fileOf s lun) bs)
+  unfolding rules updateRules replaceRules ended
+  update-told =
+      let (opening, (badRequest, (badLength, (pastEnd, (otherLength, none))))) = passes-append (openRules writes s caller lun sel) _ (a .passes) in
+      record {
+        opened = open-told writes s caller lun sel opening;
+        sequential = badRequest;
+        long-ok = stored-fit fmt (fileOf s lun) bs badLength;
+        there = leb-false _ _ pastEnd;
+        same-length = eqb-true _ _ (not-false _ otherLength);
+      }

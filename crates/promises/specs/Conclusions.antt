@@ -1,6 +1,6 @@
 -- Hollow programs that the statements shut out, and check's count. The steps are those of RULES, Worked example.
 use mathlib.Core.Path.{_≡_}
-use mathlib.Core.Bool.{false, true}
+use mathlib.Core.Bool.{Bool, false, true}
 use mathlib.Core.List.{List, []}
 use Prim.Native.Nat.{ℕ, _+_, _*_, _≤_}
 use lib.ListN.{length}
@@ -40,9 +40,9 @@ pub record OnlyMovesE (img e img′ : List ℕ) : Type 0 where
 abbrev pub NotOnlyE : Type 0
 NotOnlyE =
     (p : Program) → Meets p
-    → ((s : State) (caller lun sel num : ℕ) (bs : List ℕ) → accepts (p (Write caller lun sel num bs) s .answer) ≡ true
+    → ((s : State) (caller lun sel num : ℕ) (fmt : Bool) (bs : List ℕ) → accepts (p (Write caller lun sel num fmt bs) s .answer) ≡ true
     → contiguous (fileOf s lun) ≡ false → 1 ≤ extent (s .image) (fileOf s lun)
-    → OnlyMovesE (s .image) (fileOf s lun) (p (Write caller lun sel num bs) s .image)) → ⊥
+    → OnlyMovesE (s .image) (fileOf s lun) (p (Write caller lun sel num fmt bs) s .image)) → ⊥
 
 -- An invented free count: check's is the SAT's
 abbrev pub CheckCounts : Type 0

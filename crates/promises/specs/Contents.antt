@@ -1,7 +1,7 @@
 -- The contents of demand 2: what accepted transfers read and write, and what every other call leaves.
 use mathlib.Core.List.{List, [], _∷_, _++_}
 use mathlib.Core.Path.{_≡_}
-use mathlib.Core.Bool.{true, false}
+use mathlib.Core.Bool.{Bool, true, false}
 use mathlib.Core.Logic.{_≢_, _⊎_}
 use Prim.Native.Nat.{ℕ, _+_, _-_, _*_, _/_, _≤_, _<_}
 use lib.Dec.{leb}
@@ -15,6 +15,7 @@ use Rattle.ownership.specs.Blocks.{block}
 use Rattle.ownership.specs.Owners.{logical}
 use Rattle.files.specs.Files.{recordAt, records, extent, stored}
 use Rattle.files.specs.Changes.{sectorsAt}
+use Rattle.work.specs.Transfers.{storedAs, handedAs}
 use Rattle.luns.specs.declared.Lun.{Lun}
 use Rattle.luns.specs.declared.Place.the-variants.{At}
 use Rattle.luns.specs.Luns.{movedTo}
@@ -48,51 +49,53 @@ pub record OnlyLun (d d′ : Desk) (lun : ℕ) (u : Lun) : Type 0 where
 abbrev pub Moves : State → Outcome → ℕ → ℕ → ℕ → Type 0
 Moves s o lun i n = OnlyLun (s .desk) (o .desk) lun (movedTo (At i n) (lunAt (s .desk) lun))
 
--- RULES, Write: the file's records are the old ones and the new one; or exactly those sectors have the data
-pub record Wrote (s : State) (o : Outcome) (lun i : ℕ) (bs : List ℕ) : Type 0 where
+-- RULES, Write: the file's records are the old ones and the new one; or exactly those sectors have the data. Of bs, the bytes sent, ss is
+-- stored (`storedAs`)
+pub record Wrote (s : State) (o : Outcome) (lun i : ℕ) (bs ss : List ℕ) : Type 0 where
   pub answered : o .answer ≡ Done (Moved (length bs))
   pub entry-same : entryAt (o .image) (slotHeld s lun) ≡ fileOf s lun
   pub appended-record : contiguous (fileOf s lun) ≡ false
       → (i ≡ length (records (s .image) (fileOf s lun)))
-      × (records (o .image) (fileOf s lun) ≡ records (s .image) (fileOf s lun) ++ (bs ∷ []))
+      × (records (o .image) (fileOf s lun) ≡ records (s .image) (fileOf s lun) ++ (ss ∷ []))
       × Moves s o lun i 1
-  pub sectors-written : contiguous (fileOf s lun) ≡ true → (j : ℕ) → j < length bs / 256
-      → unitOf (o .image) (fileOf s lun) (i + j) ≡ part (256 * j) 256 bs
+  pub sectors-written : contiguous (fileOf s lun) ≡ true → (j : ℕ) → j < length ss / 256
+      → unitOf (o .image) (fileOf s lun) (i + j) ≡ part (256 * j) 256 ss
   pub sectors-kept : contiguous (fileOf s lun) ≡ true → (j : ℕ) → j < extent (s .image) (fileOf s lun)
-      → (j < i) ⊎ (i + length bs / 256 ≤ j) → unitOf (o .image) (fileOf s lun) j ≡ unitOf (s .image) (fileOf s lun) j
-  pub sectors-moved : contiguous (fileOf s lun) ≡ true → Moves s o lun i (length bs / 256)
+      → (j < i) ⊎ (i + length ss / 256 ≤ j) → unitOf (o .image) (fileOf s lun) j ≡ unitOf (s .image) (fileOf s lun) j
+  pub sectors-moved : contiguous (fileOf s lun) ≡ true → Moves s o lun i (length ss / 256)
 
 abbrev pub AcceptedWrite : Type 0
 AcceptedWrite =
-    (s : State) (caller lun sel num : ℕ) (bs : List ℕ) → Accepts (Write caller lun sel num bs) s
-    → Wrote s (step (Write caller lun sel num bs) s) lun (aimed s lun sel num) bs
+    (s : State) (caller lun sel num : ℕ) (fmt : Bool) (bs : List ℕ) → Accepts (Write caller lun sel num fmt bs) s
+    → Wrote s (step (Write caller lun sel num fmt bs) s) lun (aimed s lun sel num) bs (storedAs fmt (fileOf s lun) bs)
 
--- RULES, Update: the record, which is as long, and no other
-pub record Updated (s : State) (o : Outcome) (lun i : ℕ) (bs : List ℕ) : Type 0 where
+-- RULES, Update: the record, which is stored in the same length, and no other
+pub record Updated (s : State) (o : Outcome) (lun i : ℕ) (bs ss : List ℕ) : Type 0 where
   pub answered : o .answer ≡ Done (Moved (length bs))
   pub entry-same : entryAt (o .image) (slotHeld s lun) ≡ fileOf s lun
   pub sequential : contiguous (fileOf s lun) ≡ false
   pub there : i < length (records (s .image) (fileOf s lun))
-  pub same-length : length bs ≡ length (unitOf (s .image) (fileOf s lun) i)
-  pub replaced : records (o .image) (fileOf s lun) ≡ set (records (s .image) (fileOf s lun)) i bs
+  pub same-length : length ss ≡ length (unitOf (s .image) (fileOf s lun) i)
+  pub replaced : records (o .image) (fileOf s lun) ≡ set (records (s .image) (fileOf s lun)) i ss
   pub record-moved : Moves s o lun i 1
 
 abbrev pub AcceptedUpdate : Type 0
 AcceptedUpdate =
-    (s : State) → Bytes (s .image) → (caller lun sel num : ℕ) (bs : List ℕ) → Accepts (Update caller lun sel num bs) s
-    → Updated s (step (Update caller lun sel num bs) s) lun (aimed s lun sel num) bs
+    (s : State) → Bytes (s .image) → (caller lun sel num : ℕ) (fmt : Bool) (bs : List ℕ) → Accepts (Update caller lun sel num fmt bs) s
+    → Updated s (step (Update caller lun sel num fmt bs) s) lun (aimed s lun sel num) bs (storedAs fmt (fileOf s lun) bs)
 
--- RULES, Read: as many sectors as the buffer has room for, or fewer if the end comes first; or the record's data.
--- The rest of the buffer stays
+-- RULES, Read: as many sectors as the buffer has room for, or fewer if the end comes first; or the record's data, or their text
+-- (`handedAs`). The rest of the buffer stays
 abbrev pub least : ℕ → ℕ → ℕ
 least m n = if leb m n then m else n
 
-pub record HandedOver (s : State) (o : Outcome) (lun i : ℕ) (buf bs : List ℕ) : Type 0 where
+pub record HandedOver (s : State) (o : Outcome) (lun i : ℕ) (fmt : Bool) (buf bs : List ℕ) : Type 0 where
   pub answered : o .answer ≡ Done (Moved (length bs))
   pub image-kept : o .image ≡ s .image
   pub room : length bs ≤ length buf
   pub buffer-has : o .buffer ≡ over bs buf
-  pub one-record : contiguous (fileOf s lun) ≡ false → (bs ≡ unitOf (s .image) (fileOf s lun) i) × Moves s o lun i 1
+  pub one-record : contiguous (fileOf s lun) ≡ false
+      → (bs ≡ handedAs fmt (fileOf s lun) (unitOf (s .image) (fileOf s lun) i)) × Moves s o lun i 1
   pub how-many : contiguous (fileOf s lun) ≡ true → length bs ≡ 256 * least (length buf / 256) (extent (s .image) (fileOf s lun) - i)
   pub each-sector : contiguous (fileOf s lun) ≡ true → (j : ℕ) → 256 * j < length bs
       → part (256 * j) 256 bs ≡ unitOf (s .image) (fileOf s lun) (i + j)
@@ -100,8 +103,8 @@ pub record HandedOver (s : State) (o : Outcome) (lun i : ℕ) (buf bs : List ℕ
 
 abbrev pub AcceptedRead : Type 0
 AcceptedRead =
-    (s : State) (caller lun sel num : ℕ) (buf : List ℕ) → Accepts (Read caller lun sel num buf) s
-    → (bs : List ℕ) × HandedOver s (step (Read caller lun sel num buf) s) lun (aimed s lun sel num) buf bs
+    (s : State) (caller lun sel num : ℕ) (fmt : Bool) (buf : List ℕ) → Accepts (Read caller lun sel num fmt buf) s
+    → (bs : List ℕ) × HandedOver s (step (Read caller lun sel num fmt buf) s) lun (aimed s lun sel num) fmt buf bs
 
 -- slot k holds the same file: entry, access block, sectors, bytes and, if it is sequential, records
 pub record SameFile (img img′ : List ℕ) (k : ℕ) : Type 0 where
@@ -120,9 +123,10 @@ OtherFilesKept =
 -- "A write or update leaves every other file's bytes as they were."
 abbrev pub OthersKept : Type 0
 OthersKept =
-    (s : State) → Bytes (s .image) → (caller lun sel num : ℕ) (bs : List ℕ) (k : ℕ) → File (s .image) k → k ≢ slotHeld s lun
-    → (SameFile (s .image) (step (Write caller lun sel num bs) s .image) k)
-    × (SameFile (s .image) (step (Update caller lun sel num bs) s .image) k)
+    (s : State) → Bytes (s .image) → (caller lun sel num : ℕ) (fmt : Bool) (bs : List ℕ) (k : ℕ) → File (s .image) k
+    → k ≢ slotHeld s lun
+    → (SameFile (s .image) (step (Write caller lun sel num fmt bs) s .image) k)
+    × (SameFile (s .image) (step (Update caller lun sel num fmt bs) s .image) k)
 
 -- No call but format changes the image's length, or a byte of sector 0 or of the trailer. (Entries and access blocks of files that a
 -- call does not name: `OtherFilesKept`)

@@ -11,6 +11,7 @@ use Rattle.volume.specs.Sat.{free}
 use Rattle.ownership.specs.Blocks.{block, streamLength, total}
 use Rattle.files.specs.Changes.{taken}
 use Rattle.work.specs.Volumes.{slotOf}
+use Rattle.work.specs.Transfers.{storedAs}
 use Rattle.desk.specs.Desk.{State, fileOf}
 use Rattle.desk.specs.Calls.{Call, Format, Check, Allocate, Assign, Close, Rewind, Delete, Read, Write, Update, step}
 use Rattle.promises.specs.Sectors.{Bytes, Accepts}
@@ -20,8 +21,8 @@ use Rattle.promises.specs.Answers.{NoFormat}
 unfoldable pub sectorsHeld : List ℕ → List ℕ → ℕ
 sectorsHeld img e = if contiguous e then size e else 1 + total (block img e)
 
--- the sectors that a sequential file with entry e needs for a record of n bytes more: its stream grows from E by n bytes, or for variable
--- records by a count word, the bytes and a pad byte if n is odd
+-- the sectors that a sequential file with entry e needs for a record that is stored in n bytes more: its stream grows from E by n bytes, or
+-- for variable records by a count word, the bytes and a pad byte if n is odd
 unfoldable pub growth : List ℕ → List ℕ → ℕ → ℕ
 growth img e n =
     inSectors (streamLength (block img e) + (if eqb (recordLength e) 0 then 2 + n + n % 2 else n)) - total (block img e)
@@ -42,10 +43,10 @@ trade (Assign caller lun desc mode end) s = trading 0 0
 trade (Close caller lun) s = trading 0 0
 trade (Rewind caller lun) s = trading 0 0
 trade (Delete caller desc) s = trading 0 (sectorsHeld (s .image) (entryAt (s .image) (slotOf (s .image) desc)))
-trade (Read caller lun sel num buf) s = trading 0 0
-trade (Write caller lun sel num bs) s =
-    trading (if contiguous (fileOf s lun) then 0 else growth (s .image) (fileOf s lun) (length bs)) 0
-trade (Update caller lun sel num bs) s = trading 0 0
+trade (Read caller lun sel num fmt buf) s = trading 0 0
+trade (Write caller lun sel num fmt bs) s =
+    trading (if contiguous (fileOf s lun) then 0 else growth (s .image) (fileOf s lun) (length (storedAs fmt (fileOf s lun) bs))) 0
+trade (Update caller lun sel num fmt bs) s = trading 0 0
 
 abbrev pub FreeCount : Type 0
 FreeCount =

@@ -7,7 +7,10 @@ use Rattle.promises.specs.Contents.{AcceptedWrite, AcceptedUpdate, Accep
 use Rattle.promises.specs.Filing.{AcceptedFormat, AcceptedAllocate, AcceptedDelete}
 use Rattle.promises.specs.Seating.{AcceptedAssign, AcceptedClose, AcceptedRewind}
 use Rattle.promises.specs.Counts.{FreeCount}
-use Rattle.promises.specs.Lasting.{AppendEndsNone, Lasts, WrittenIsRead, UpdatedIsRead, WrittenSectorIsRead, NeverPastEnd}
+use Rattle.promises.specs.Lasting.{AppendEndsNone, Lasts, WrittenIsRead, UpdatedIsRead, WrittenTextIsRead, UpdatedTextIsRead}
+use Rattle.promises.specs.Lasting.{WrittenSectorIsRead, NeverPastEnd}
+use Rattle.promises.specs.Texts.{PackedReadsBack, NoTwoStoredAlike, NeverLonger, NoEmptyByte, LongestText, RunByRun, SamplesPacked}
+use Rattle.promises.specs.Texts.{OptionIgnored}
 use Rattle.promises.specs.Conclusions.{NotAllRefused, NotAllDone, NotUnchanged, NotOnlyE, CheckCounts}
 use Rattle.promises.specs.Steps.{SmallVolume}
 use Rattle.promises.specs.Table.{TableDiffers}
@@ -39,6 +42,9 @@ pub record Demands : Type 0 where
   pub written-is-read : WrittenIsRead
   pub written-sector-is-read : WrittenSectorIsRead
   pub updated-is-read : UpdatedIsRead
+  -- .. and a text, if it was written as one, as itself or in its packed form
+  pub written-text-is-read : WrittenTextIsRead
+  pub updated-text-is-read : UpdatedTextIsRead
   pub never-past-end : NeverPastEnd
   pub runs-are-visits : RunsAreVisits
   -- "each refusal comes exactly when its condition holds and no earlier one in its call's order does."
@@ -54,6 +60,16 @@ pub record Demands : Type 0 where
   pub one-stream-each : OneStreamEach
   -- "A write or update leaves every other file's bytes as they were."
   pub others-kept : OthersKept
+  -- Spaces in passenger lists: "a packed text reads back as itself, so no two texts are stored alike"; "Fixed and contiguous files ignore
+  -- the option"
+  pub packed-reads-back : PackedReadsBack
+  pub no-two-stored-alike : NoTwoStoredAlike
+  pub never-longer : NeverLonger
+  pub no-empty-byte : NoEmptyByte
+  pub longest-text : LongestText
+  pub run-by-run : RunByRun
+  pub samples-packed : SamplesPacked
+  pub option-ignored : OptionIgnored
   -- Each public call's statement settles answer, image, desk and buffer in all cases: at most one outcome satisfies it
   pub one-outcome : OneOutcome
   -- A program that refuses everything is shut out, and so is one that answers $00 to everything,

@@ -6,6 +6,7 @@ pub mod Answers
 pub mod Sectors
 pub mod Contents
 pub mod Lasting
+pub mod Texts
 pub mod Filing
 pub mod Seating
 pub mod Counts

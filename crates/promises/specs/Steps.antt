@@ -1,11 +1,12 @@
 -- RULES, Worked example: its steps, one computed list with one statement.
 use mathlib.Core.List.{List, _∷_, [], _++_, map}
-use mathlib.Core.Bool.{false}
+use mathlib.Core.Bool.{true, false}
 use mathlib.Core.Path.{_≡_, refl}
 use Prim.Native.Nat.{ℕ}
 use lib.ListN.{replicate, take, drop, getD}
 use Rattle.lists.specs.Lists.{same, flat, lists-open}
 use Rattle.lists.specs.Parts.{parts-open}
+use Rattle.text.specs.Packing.{packing-open}
 use Rattle.volume.specs.Volume.{sat, trailer, volume-open}
 use Rattle.volume.specs.Sat.{one, free, sat-open}
 use Rattle.volume.specs.Directory.{entryAt, start, directory-open}
@@ -24,7 +25,7 @@ use Rattle.luns.specs.Luns.{luns-open}
 use Rattle.work.specs.Refusals.{refusals-open}
 use Rattle.work.specs.Volumes.{volumes-open}
 use Rattle.work.specs.Transfers.{transfers-open}
-use Rattle.desk.specs.Calls.{Call, Format, Allocate, Assign, Delete, Write, Update, calls-open}
+use Rattle.desk.specs.Calls.{Call, Format, Allocate, Assign, Delete, Read, Write, Update, calls-open}
 use Rattle.desk.specs.Answers.{Outcome, status, moved, answers-open}
 use Rattle.desk.specs.Desk.{state, State, emptyDesk, desk-open}
 use Rattle.promises.specs.Runs.{trace, next}
@@ -67,6 +68,10 @@ segments k img = flat (λ p. p) (pairs (block img (entryAt img k)))
 pub second : ℕ → List ℕ → ℕ
 second k img = getD (logical img (entryAt img k)) 1 0
 
+-- what stands in file Y's stream after step 6's 258 bytes
+pub added : List ℕ → List ℕ
+added img = drop 258 (stream img (entryAt img 1))
+
 -- 4,096 bytes of anything, and an empty desk
 unfoldable pub blank : State
 blank = state (replicate 4096 7) emptyDesk
@@ -85,21 +90,27 @@ story =
     -- 4
     ∷ record { call = Assign 5 0 (desc 89) 4 false; look = λ img. [] }
     ∷ record {
-      call = Write 5 0 0 0 (0x41 ∷ 0x42 ∷ 0x43 ∷ []);
+      call = Write 5 0 0 0 false (0x41 ∷ 0x42 ∷ 0x43 ∷ []);
       look = λ img. stream img (entryAt img 1) ++ (bytesIn 1 img ∷ (segments 1 img ++ sat2 img));
     }
     -- 5, 6
     ∷ record { call = Delete 5 (desc 88); look = sat2 }
     ∷ record {
-      call = Write 5 0 0 0 (replicate 250 1);
+      call = Write 5 0 0 0 false (replicate 250 1);
       look = λ img. bytesIn 1 img ∷ (segments 1 img ++ (sat2 img ++ (second 1 img ∷ free img ∷ [])));
     }
     -- 7 and 8 are asked of the volume after step 6: the refused ones, which leave it, come first
     ∷ record { call = Allocate 5 (desc 88) 0 8 0; look = λ img. free img ∷ [] }
-    ∷ record { call = Write 5 0 3 3 (0x41 ∷ []); look = λ img. [] }
-    ∷ record { call = Write 5 0 3 1 (0x41 ∷ []); look = λ img. [] }
-    ∷ record { call = Update 5 0 3 0 (replicate 4 0x41); look = λ img. [] }
+    ∷ record { call = Write 5 0 3 3 false (0x41 ∷ []); look = λ img. [] }
+    ∷ record { call = Write 5 0 3 1 false (0x41 ∷ []); look = λ img. [] }
+    ∷ record { call = Update 5 0 3 0 false (replicate 4 0x41); look = λ img. [] }
     ∷ record { call = Allocate 5 (desc 88) 0 7 0; look = λ img. at 0 img ∷ [] }
+    -- 11
+    ∷ record { call = Write 5 0 3 2 true (replicate 129 0x20); look = λ img. bytesIn 1 img ∷ free img ∷ added img }
+    ∷ record { call = Read 5 0 1 0 true (replicate 128 0xEE); look = λ img. [] }
+    ∷ record { call = Update 5 0 1 0 true (replicate 128 0x20); look = added }
+    ∷ record { call = Read 5 0 1 0 true (replicate 128 0xEE); look = λ img. [] }
+    ∷ record { call = Update 5 0 1 0 true (replicate 2 0x20); look = λ img. [] }
     ∷ []
 
 -- 9 asks the modes alone
@@ -129,6 +140,13 @@ settled =
     ∷ (0x61 ∷ 0 ∷ [])
     -- 7: 7 sectors start at 8
     ∷ (0 ∷ 0 ∷ 8 ∷ [])
+    -- 11: 129 spaces are stored as FF 82, with no new sector; their text is longer than 128 bytes; 128 are stored as FF 20, as long;
+    -- 2 are stored as 82
+    ∷ (0 ∷ 129 ∷ 262 ∷ 2 ∷ 0x00 ∷ 0x02 ∷ 0xFF ∷ 0x82 ∷ [])
+    ∷ (0x84 ∷ 0 ∷ [])
+    ∷ (0 ∷ 128 ∷ 0x00 ∷ 0x02 ∷ 0xFF ∷ 0x20 ∷ [])
+    ∷ (0 ∷ 128 ∷ [])
+    ∷ (0x61 ∷ 0 ∷ [])
     -- 9: PR and EW are compatible, PR and ER are not
     ∷ (1 ∷ [])
     ∷ (0 ∷ [])
@@ -139,11 +157,11 @@ SmallVolume = steps ≡ settled
 
 -- for a proof that computes: opens every definition of the service
 unfoldable pub service-open : Unit {0}
-unfolding lists-open parts-open names-open volume-open directory-open blocks-open owners-open sat-open formatted-open rights-open
-    records-open files-open streams-open
-    changes-open modes-open luns-open refusals-open volumes-open transfers-open desk-open answers-open calls-open
+unfolding lists-open parts-open packing-open names-open volume-open directory-open blocks-open owners-open sat-open formatted-open
+    rights-open records-open files-open streams-open changes-open modes-open luns-open refusals-open volumes-open transfers-open
+    desk-open answers-open calls-open
 service-open = tt
 
 pub small-volume : SmallVolume
-unfolding steps settled story blank followed shown trace next desc sat2 at bytesIn segments second service-open
+unfolding steps settled story blank followed shown trace next desc sat2 at bytesIn segments second added service-open
 small-volume = refl

@@ -11,8 +11,24 @@ pub(crate) fn change(d: Desk, image: &mut [u8], call: Call, data: &[u8]) -> Repl
         script::FORMAT => d.format(image, data, call.two),
         script::ALLOCATE => d.allocate(image, call.one, data, call.three, call.four, call.five),
         script::DELETE => d.delete(image, call.one, data),
-        script::WRITE => d.write(image, call.one, call.two, call.three, call.four, data),
-        _ => d.update(image, call.one, call.two, call.three, call.four, data),
+        script::WRITE | script::WRITE_TEXT => d.write(
+            image,
+            call.one,
+            call.two,
+            call.three,
+            call.four,
+            call.formatted,
+            data,
+        ),
+        _ => d.update(
+            image,
+            call.one,
+            call.two,
+            call.three,
+            call.four,
+            call.formatted,
+            data,
+        ),
     }
 }
 

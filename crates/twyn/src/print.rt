@@ -1,11 +1,12 @@
-// A printed line, made whole and written at once. It is passed by value from one function that adds to it to the next: a lent
-// buffer would have to be followed through the proof of each of them.
+// A printed line, made whole and written at once; only the buffer of a read, which may be long, is written after it, in blocks. It
+// is passed by value from one function that adds to it to the next: a lent buffer would have to be followed through the proof of
+// each of them.
 ghost use Prim.Native.Nat.{_≤_};
 ghost use Rattle.io.specs.Counts.{Counts};
 use libc::STDOUT_FILENO;
 
 /// A line as far as it is made: words with a space after each, `used` bytes, of which the last word ends at `end`. What does not
-/// fit is left out; it holds the longest line.
+/// fit is left out; it holds the longest line, and the digits of a block.
 pub(crate) struct Text {
     pub(crate) bytes: [u8; 16640],
     pub(crate) used: usize,
@@ -29,6 +30,28 @@ pub(crate) fn within(n: usize, s: &[u8]) -> usize
 fn digit(b: u8) -> u8 {
     let d = b % 16;
     if d < 10 { 48 + d } else { 55 + d }
+}
+
+// How many bytes are written at once in hexadecimal: a `Text` has room for 16,384 digits.
+const BLOCK: usize = 8192;
+
+// Writes the bytes of a block in hexadecimal. False: they could not be written.
+fn write_block(s: &[u8]) -> bool {
+    let t = Text::empty().hex(s);
+    t.write(t.end)
+}
+
+// Writes the bytes in hexadecimal, block after block. False: not all could be written.
+fn write_hex(s: &[u8]) -> bool {
+    let mut from = 0;
+    while BLOCK < s.len() - from {
+        let to = from + BLOCK;
+        if !write_block(&s[from..to]) {
+            return false;
+        }
+        from = to;
+    }
+    write_block(&s[from..])
 }
 
 impl Text {
@@ -87,12 +110,11 @@ impl Text {
         t
     }
 
-    /// With the bytes in hexadecimal, `-` if there is none.
-    pub(crate) fn hex_or_dash(self, s: &[u8]) -> Text {
-        if s.len() == 0 {
-            return self.word(b"-");
-        }
-        self.hex(s)
+    // Writes the first `n` bytes. False: they could not be written.
+    fn write(self, n: usize) -> bool {
+        let bytes = self.bytes;
+        let count = within(n, &bytes);
+        io::write_all(STDOUT_FILENO, &bytes[..count])
     }
 
     /// Writes the line. False: it could not be written.
@@ -100,8 +122,19 @@ impl Text {
         let mut t = self;
         let end = least(self.end, 16639);
         t.bytes[end] = b'\n';
-        let bytes = t.bytes;
-        let n = within(end + 1, &bytes);
-        io::write_all(STDOUT_FILENO, &bytes[..n])
+        t.write(end + 1)
+    }
+
+    /// Writes the line without its end, and after it these bytes in hexadecimal, `-` if there is none. False: not all could be
+    /// written.
+    pub(crate) fn print_with(self, s: &[u8]) -> bool {
+        if s.len() == 0 {
+            let t = self.word(b"-");
+            return t.write(t.end);
+        }
+        if !self.write(self.used) {
+            return false;
+        }
+        write_hex(s)
     }
 }

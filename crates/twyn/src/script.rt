@@ -16,29 +16,36 @@ pub(crate) const DELETE: usize = 4;
 
 pub(crate) const WRITE: usize = 5;
 
-pub(crate) const UPDATE: usize = 6;
+pub(crate) const WRITE_TEXT: usize = 6;
 
-pub(crate) const CHECK: usize = 7;
+pub(crate) const UPDATE: usize = 7;
 
-pub(crate) const ASSIGN: usize = 8;
+pub(crate) const UPDATE_TEXT: usize = 8;
 
-pub(crate) const CLOSE: usize = 9;
+pub(crate) const CHECK: usize = 9;
 
-pub(crate) const REWIND: usize = 10;
+pub(crate) const ASSIGN: usize = 10;
 
-pub(crate) const READ: usize = 11;
+pub(crate) const CLOSE: usize = 11;
 
-pub(crate) const SECTOR: usize = 12;
+pub(crate) const REWIND: usize = 12;
 
-pub(crate) const DESK: usize = 13;
+pub(crate) const READ: usize = 13;
 
-pub(crate) const SUM: usize = 14;
+pub(crate) const READ_TEXT: usize = 14;
 
-pub(crate) const UNREADABLE: usize = 15;
+pub(crate) const SECTOR: usize = 15;
 
-pub(crate) const NOTHING: usize = 16;
+pub(crate) const DESK: usize = 16;
 
-/// A parsed line: its numbers by their places among the words, 0 where none stands, and its bytes, the first `count` of `data`.
+pub(crate) const SUM: usize = 17;
+
+pub(crate) const UNREADABLE: usize = 18;
+
+pub(crate) const NOTHING: usize = 19;
+
+/// A parsed line: its numbers by their places among the words, 0 where none stands, whether its transfer is of a text, and its
+/// bytes, the first `count` of `data`.
 pub(crate) struct Call {
     pub(crate) command: usize,
     pub(crate) one: u32,
@@ -46,16 +53,17 @@ pub(crate) struct Call {
     pub(crate) three: u32,
     pub(crate) four: u32,
     pub(crate) five: u32,
+    pub(crate) formatted: bool,
     pub(crate) count: usize,
     pub(crate) data: [u8; 8192],
 }
 
 // Which command the word names.
 fn named(word: &[u8]) -> usize
-    ensures { λ r. ⌜ r ≤ 15 ⌝ }
+    ensures { λ r. ⌜ r ≤ 18 ⌝ }
 {
     let names =
-        b"new poke format allocate delete write update check assign close rewind read sector desk sum";
+        b"new poke format allocate delete write write-text update update-text check assign close rewind read read-text sector desk sum";
     let mut k = 0;
     while k < UNREADABLE {
         if same_bytes(word, words::word(names, k)) {
@@ -68,18 +76,23 @@ fn named(word: &[u8]) -> usize
 
 // How many words a command has, with its name.
 fn words_of(command: usize) -> usize
-    requires { ⌜ command ≤ 15 ⌝ }
+    requires { ⌜ command ≤ 18 ⌝ }
 {
-    let words = [2, 3, 3, 6, 3, 6, 6, 1, 6, 3, 3, 6, 2, 1, 1, 0];
+    let words = [2, 3, 3, 6, 3, 6, 6, 6, 6, 1, 6, 3, 3, 6, 6, 2, 1, 1, 0];
     words[command]
 }
 
 // Which word of a command is bytes, 0 if none is. The others are numbers.
 fn bytes_at(command: usize) -> usize
-    requires { ⌜ command ≤ 15 ⌝ }
+    requires { ⌜ command ≤ 18 ⌝ }
 {
-    let places = [0, 2, 1, 2, 2, 5, 5, 0, 3, 0, 0, 0, 0, 0, 0, 0];
+    let places = [0, 2, 1, 2, 2, 5, 5, 5, 5, 0, 3, 0, 0, 0, 0, 0, 0, 0, 0];
     places[command]
+}
+
+// Whether the command transfers a text, as the command of the same name without `-text` transfers bytes.
+fn is_text(command: usize) -> bool {
+    (command == WRITE_TEXT) | (command == UPDATE_TEXT) | (command == READ_TEXT)
 }
 
 // The number at word `k`, or 0 where the command has none there.
@@ -128,6 +141,7 @@ pub(crate) fn parsed(line: &[u8], over: bool) -> Call {
         three: three.value,
         four: four.value,
         five: five.value,
+        formatted: is_text(command),
         count: brought.count,
         data: data,
     }

@@ -45,6 +45,17 @@ fn said(s: Session, t: Text) -> Session {
     u
 }
 
+// The run goes on if all was printed. If not it is broken, and why is said.
+fn printed(s: Session, ok: bool) -> Session {
+    if ok {
+        return s;
+    }
+    os::fail(b"standard output");
+    let mut t = s;
+    t.broken = true;
+    t
+}
+
 // With a call's desk, and its answer to print.
 fn replied(s: Session, r: Reply) -> Session {
     let d = r.desk;
@@ -86,11 +97,20 @@ fn serve(image: &mut [u8], s: Session, call: Call, data: &[u8]) -> Session {
     t
 }
 
-// `read`: every byte of the buffer is EE before the call, and it is printed after it, refused or not.
-fn read(image: &[u8], s: Session, call: Call) -> Session {
-    let mut buffer = [0xEEu8; 8192];
+// The longest buffer that a script may read into. It holds the longest text that can be stored: 1,024 bytes of $FF, 127 spaces
+// each, are 130,048 bytes.
+const LONGEST: usize = 131072;
+
+// A buffer as it is before a read, made in a function of its own as the room for the image is.
+fn blank() -> [u8; LONGEST] {
+    [0xEE; LONGEST]
+}
+
+// Reads into the front of the buffer, as many bytes as the line asks for, and prints the answer and that front, refused or not.
+// Only the line's end is left to print.
+fn read_into(image: &[u8], s: Session, call: Call, buffer: &mut [u8]) -> Session {
     let asked = call.five as usize;
-    let n = print::within(asked, &buffer);
+    let n = print::within(asked, buffer);
     if n != asked {
         return s;
     }
@@ -98,10 +118,24 @@ fn read(image: &[u8], s: Session, call: Call) -> Session {
     let d = s.desk;
     let t = replied(
         s,
-        d.read(image, call.one, call.two, call.three, call.four, lent),
+        d.read(
+            image,
+            call.one,
+            call.two,
+            call.three,
+            call.four,
+            call.formatted,
+            lent,
+        ),
     );
     let line = t.line;
-    said(t, line.hex_or_dash(lent))
+    printed(said(t, Text::empty()), line.print_with(lent))
+}
+
+// `read` and `read-text`.
+fn read(image: &[u8], s: Session, call: Call) -> Session {
+    let mut buffer = blank();
+    read_into(image, s, call, &mut buffer)
 }
 
 fn sector(image: &[u8], t: Text, number: u32) -> Text {
@@ -138,7 +172,7 @@ fn look(image: &[u8], s: Session, call: Call, data: &[u8]) -> Session {
     if command <= script::REWIND {
         return replied(s, calls::ask(d, image, call, data));
     }
-    if command == script::READ {
+    if command <= script::READ_TEXT {
         return read(image, s, call);
     }
     said(s, shown(image, t, d, command, call.one))
@@ -153,7 +187,7 @@ fn work(image: &mut [u8], s: Session, call: Call) -> Session {
     match command {
         script::NEW => fresh(image, s, call.one),
         script::POKE => poke(image, s, call.one, data),
-        script::FORMAT..=script::UPDATE => serve(image, s, call, data),
+        script::FORMAT..=script::UPDATE_TEXT => serve(image, s, call, data),
         _ => look(image, s, call, data),
     }
 }
@@ -186,16 +220,13 @@ fn readied(name: &[u8], s: Session, command: usize) -> Session {
     t
 }
 
-// Prints the line.
+// Prints the line, or of a read what is left of it.
 fn told(s: Session) -> Session {
-    let line = s.line;
-    if line.print() {
+    if s.broken {
         return s;
     }
-    os::fail(b"standard output");
-    let mut t = s;
-    t.broken = true;
-    t
+    let line = s.line;
+    printed(s, line.print())
 }
 
 /// Carries a line of the script out. `name` is the file that the image would be written to first.

@@ -2,6 +2,7 @@ pub mod Rules
 pub mod Bounds
 pub mod Spots
 pub mod Copies
+pub mod TextRules
 pub mod Readings
 pub mod Writes
 pub mod Updates

@@ -1,25 +1,29 @@
 -- Write, one law for each thing that it can come to.
-use mathlib.Core.Path.{_≡_}
-use mathlib.Core.Bool.{false, true}
+use mathlib.Core.Path.{_≡_, refl}
+use mathlib.Core.Bool.{Bool, false, true}
 use mathlib.Core.List.{List}
 use Prim.Native.Nat.{ℕ, _/_, _≤_, _<_, _+_, _*_, _%_}
 use native.Mathlib.Omega.{arith}
 use lib.ListN.{length}
+use lib.Dec.{leb}
 use borrow.Author.Tests.{ltb-false, leb-false, eqb-true, not-false, lt-ltb, le-ltb}
-use Rattle.numbers.specs.Numbers.{mostSegments, mostMoved}
-use Rattle.lists.specs.Lists.{_and_}
+use Rattle.numbers.specs.Numbers.{mostSegments, mostMoved, recordLimit}
+use Rattle.lists.specs.Lists.{_and_, _or_}
 use Rattle.lists.proofs.Tests.{or-right, or-left}
+use Rattle.text.specs.Packing.{isText, packed}
 use Rattle.volume.specs.Directory.{contiguous, recordLength, size}
 use Rattle.volume.specs.Sat.{free}
 use Rattle.records.specs.Records.{allowed}
 use Rattle.files.specs.Files.{extent}
 use Rattle.files.specs.Changes.{needed, newPairs, appended, overwritten}
-use Rattle.work.specs.Transfers.{oddLength, units, moving, wrongLength, ended, beyond, roomRules, writeRules, written, writing}
+use Rattle.work.specs.Transfers.{oddLength, units, moving, wrongLength, asText, storedAs, unfit, ended, beyond, roomRules}
+use Rattle.work.specs.Transfers.{storeRules, writeRules, written, writing}
 use Rattle.work.specs.Code.Runs.{crosses}
 use Rattle.work.specs.declared.Refusal.the-variants.{BadLength, PastEnd, Exists, NoRoom, NoSegment}
 use Rattle.work.specs.declared.Worked.the-variants.{Did, Denied}
 use Rattle.work.specs.Refusals.{ruled}
-use Rattle.work.specs.Code.Deeds.{deed, doneBy, moved, writeDeed, appendDeed}
+use Rattle.work.specs.Code.Deeds.{deed, doneBy, moved, writeDeed, storeDeed, appendDeed}
+use Rattle.work.proofs.TextRules.{plain-unfit, plain-stored, text-unfit, text-stored}
 
 -- whole sectors, and where they lie in a run
 pub odd-few : (m : ℕ) → oddLength m ≡ false → (m / 256 ≤ mostMoved) × (m ≤ 256 * mostMoved)
@@ -40,51 +44,71 @@ run-bytes n i m h c =
     omega arith
 
 module _ (img e : List ℕ) (i : ℕ) (bs : List ℕ) where
+  -- a transfer that is not of text is one that was not asked for as such
+  pub plain-write : (fmt : Bool) → asText fmt e ≡ false → writeDeed img e i false bs ≡ writeDeed img e i fmt bs
+  unfolding writeDeed writeRules writing asText _and_
+  plain-write fmt t =
+      rw (plain-unfit fmt e t bs, plain-stored fmt e t bs, plain-unfit false e refl bs, plain-stored false e refl bs) refl
+
   -- sectors of a contiguous file
   module _ (c : contiguous e ≡ true) where
-    pub run-odd : oddLength (length bs) ≡ true → deed (Denied BadLength) img bs ≡ writeDeed img e i bs
-    unfolding writeDeed writeRules wrongLength doneBy ruled
+    pub run-odd : oddLength (length bs) ≡ true → deed (Denied BadLength) img bs ≡ writeDeed img e i false bs
+    unfolding writeDeed writeRules unfit wrongLength doneBy ruled _or_
     run-odd a = rw (c, a)
 
     module _ (a : oddLength (length bs) ≡ false) where
-      pub run-crosses : crosses (size e) i (length bs / 256) ≡ true → deed (Denied PastEnd) img bs ≡ writeDeed img e i bs
-      unfolding writeDeed writeRules wrongLength beyond ended extent crosses doneBy ruled
+      pub run-crosses : crosses (size e) i (length bs / 256) ≡ true → deed (Denied PastEnd) img bs ≡ writeDeed img e i false bs
+      unfolding writeDeed writeRules storeRules unfit asText storedAs wrongLength beyond ended extent crosses doneBy ruled _and_ _or_
       run-crosses b = rw (c, a, b)
 
       pub run-written : crosses (size e) i (length bs / 256) ≡ false
-          → deed (Did (length bs) i (length bs / 256)) (overwritten e i bs img) bs ≡ writeDeed img e i bs
-      unfolding writeDeed writeRules roomRules wrongLength beyond ended extent crosses writing written moving moved units doneBy ruled _and_
+          → deed (Did (length bs) i (length bs / 256)) (overwritten e i bs img) bs ≡ writeDeed img e i false bs
+      unfolding writeDeed writeRules storeRules roomRules unfit asText storedAs wrongLength beyond ended extent crosses writing written moving moved units doneBy
+          ruled _and_ _or_
       run-written b = rw (c, a, b)
 
-  -- a record of a sequential one
-  module _ (c : contiguous e ≡ false) where
-    pub record-wrong : allowed (recordLength e) bs ≡ false → deed (Denied BadLength) img bs ≡ writeDeed img e i bs
-    unfolding writeDeed writeRules wrongLength doneBy ruled
-    record-wrong a = rw (c, a)
+  -- a record of a sequential one: as it is sent, or as a text
+  pub record-wrong : contiguous e ≡ false → allowed (recordLength e) bs ≡ false → deed (Denied BadLength) img bs ≡ writeDeed img e i false bs
+  unfolding writeDeed writeRules unfit wrongLength doneBy ruled _or_
+  record-wrong c a = rw (c, a)
 
-    module _ (a : allowed (recordLength e) bs ≡ true) where
-      pub record-past : extent img e < i → deed (Denied PastEnd) img bs ≡ writeDeed img e i bs
-      unfolding writeDeed writeRules wrongLength beyond doneBy ruled
-      record-past l = rw (c, a, lt-ltb (extent img e) i l)
+  pub record-fine : contiguous e ≡ false → allowed (recordLength e) bs ≡ true → storeDeed img e i bs bs ≡ writeDeed img e i false bs
+  unfolding writeDeed storeDeed writeRules writing unfit asText storedAs wrongLength doneBy ruled _and_ _or_
+  record-fine c a = rw (c, a)
 
-      pub record-there : i < extent img e → deed (Denied Exists) img bs ≡ writeDeed img e i bs
-      unfolding writeDeed writeRules wrongLength beyond doneBy ruled _and_
-      record-there l = rw (c, a, le-ltb (extent img e) i (omega arith), lt-ltb i (extent img e) l)
+  module _ (t : asText true e ≡ true) where
+    pub text-wrong : (leb (length bs) recordLimit and isText bs) ≡ false → deed (Denied BadLength) img bs ≡ writeDeed img e i true bs
+    unfolding writeDeed writeRules doneBy ruled
+    text-wrong a = rw (text-unfit true e t bs, a)
 
-      pub record-next : i ≤ extent img e → extent img e ≤ i → appendDeed img e i bs ≡ writeDeed img e i bs
-      unfolding writeDeed appendDeed writeRules wrongLength beyond doneBy ruled _and_
-      record-next l g = rw (c, a, le-ltb (extent img e) i l, le-ltb i (extent img e) g)
+    pub text-fine : (leb (length bs) recordLimit and isText bs) ≡ true → storeDeed img e i (packed bs) bs ≡ writeDeed img e i true bs
+    unfolding writeDeed storeDeed writeRules writing doneBy ruled
+    text-fine a = rw (text-unfit true e t bs, text-stored true e t bs, a)
+
+  -- as ss
+  module _ (ss : List ℕ) (c : contiguous e ≡ false) where
+    pub record-past : extent img e < i → deed (Denied PastEnd) img bs ≡ storeDeed img e i ss bs
+    unfolding storeDeed storeRules beyond doneBy ruled
+    record-past l = rw (c, lt-ltb (extent img e) i l)
+
+    pub record-there : i < extent img e → deed (Denied Exists) img bs ≡ storeDeed img e i ss bs
+    unfolding storeDeed storeRules beyond doneBy ruled _and_
+    record-there l = rw (c, le-ltb (extent img e) i (omega arith), lt-ltb i (extent img e) l)
+
+    pub record-next : i ≤ extent img e → extent img e ≤ i → appendDeed img e i ss bs ≡ storeDeed img e i ss bs
+    unfolding storeDeed appendDeed storeRules beyond doneBy ruled _and_
+    record-next l g = rw (c, le-ltb (extent img e) i l, le-ltb i (extent img e) g)
 
     -- the next one
-    pub next-full : free img < needed img e bs → deed (Denied NoRoom) img bs ≡ appendDeed img e i bs
+    pub next-full : free img < needed img e ss → deed (Denied NoRoom) img bs ≡ appendDeed img e i ss bs
     unfolding appendDeed roomRules doneBy ruled _and_
-    next-full l = rw (c, lt-ltb (free img) (needed img e bs) l)
+    next-full l = rw (c, lt-ltb (free img) (needed img e ss) l)
 
-    module _ (f : needed img e bs ≤ free img) where
-      pub next-split : mostSegments < length (newPairs img e bs) → deed (Denied NoSegment) img bs ≡ appendDeed img e i bs
+    module _ (f : needed img e ss ≤ free img) where
+      pub next-split : mostSegments < length (newPairs img e ss) → deed (Denied NoSegment) img bs ≡ appendDeed img e i ss bs
       unfolding appendDeed roomRules doneBy ruled _and_
-      next-split l = rw (c, le-ltb (free img) (needed img e bs) f, lt-ltb mostSegments (length (newPairs img e bs)) l)
+      next-split l = rw (c, le-ltb (free img) (needed img e ss) f, lt-ltb mostSegments (length (newPairs img e ss)) l)
 
-      pub next-written : length (newPairs img e bs) ≤ mostSegments → deed (Did (length bs) i 1) (appended e bs img) bs ≡ appendDeed img e i bs
-      unfolding appendDeed roomRules writing written moving moved units doneBy ruled _and_
-      next-written l = rw (c, le-ltb (free img) (needed img e bs) f, le-ltb mostSegments (length (newPairs img e bs)) l)
+      pub next-written : length (newPairs img e ss) ≤ mostSegments → deed (Did (length bs) i 1) (appended e ss img) bs ≡ appendDeed img e i ss bs
+      unfolding appendDeed roomRules written moving moved units doneBy ruled _and_
+      next-written l = rw (c, le-ltb (free img) (needed img e ss) f, le-ltb mostSegments (length (newPairs img e ss)) l)

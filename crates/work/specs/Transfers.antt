@@ -10,6 +10,7 @@ use Rattle.lists.specs.Lists.{if_then_else_, _or_, _and_}
 use Rattle.lists.specs.Parts.{over}
 use Rattle.volume.specs.Directory.{contiguous, recordLength, size}
 use Rattle.volume.specs.Sat.{free}
+use Rattle.text.specs.Packing.{isText, packed, unpacked}
 use Rattle.records.specs.Records.{allowed}
 use Rattle.files.specs.Files.{extent, recordAt}
 use Rattle.files.specs.Changes.{sectorsAt, needed, newPairs, appended, overwritten, updated}
@@ -39,67 +40,82 @@ oddLength n = eqb n 0 or not (eqb (n % 256) 0) or ltb (256 * mostMoved) n
 unfoldable pub wrongLength : List ℕ → List ℕ → Bool
 wrongLength e bs = if contiguous e then oddLength (length bs) else not (allowed (recordLength e) bs)
 
+-- RULES, Texts: a transfer that is asked for as formatted is one of text in a variable sequential file alone
+unfoldable pub asText : Bool → List ℕ → Bool
+asText fmt e = fmt and not (contiguous e) and eqb (recordLength e) 0
+
+-- RULES, Texts: what a write or an update stores of the bytes sent, and what a read hands over of the data stored
+unfoldable pub storedAs : Bool → List ℕ → List ℕ → List ℕ
+storedAs fmt e bs = if asText fmt e then packed bs else bs
+
+unfoldable pub handedAs : Bool → List ℕ → List ℕ → List ℕ
+handedAs fmt e ss = if asText fmt e then unpacked ss else ss
+
+-- RULES, Status numbers: $84 of a write or update, its bytes being as they are sent: the length; or, of a text, a byte of $80 or more
+unfoldable pub unfit : Bool → List ℕ → List ℕ → Bool
+unfit fmt e bs = wrongLength e bs or asText fmt e and not (isText bs)
+
 -- RULES, Status numbers: $C2 of a read or update: the target is at or past the extent
 unfoldable pub ended : List ℕ → List ℕ → ℕ → Bool
 ended img e i = leb (extent img e) i
 
--- RULES, Read: as many sectors as the buffer has room for, or fewer if the end comes first; the target record's data
+-- RULES, Read: as many sectors as the buffer has room for, or fewer if the end comes first; the target record's data, or its text
 unfoldable pub readable : List ℕ → ℕ → ℕ → ℕ
 readable e i n = if leb (i + n / 256) (size e) then n / 256 else size e - i
 
-unfoldable pub dataAt : List ℕ → List ℕ → ℕ → ℕ → List ℕ
-dataAt img e i n = if contiguous e then sectorsAt e i (readable e i n) img else recordAt img e i
+unfoldable pub dataAt : List ℕ → List ℕ → ℕ → Bool → ℕ → List ℕ
+dataAt img e i fmt n = if contiguous e then sectorsAt e i (readable e i n) img else handedAs fmt e (recordAt img e i)
 
 -- RULES, Orders of refusals: read, from $84 on: $84 (contiguous), $C2, $84 (sequential)
-unfoldable pub readRules : List ℕ → List ℕ → ℕ → ℕ → List Rule
-readRules img e i n =
+unfoldable pub readRules : List ℕ → List ℕ → ℕ → Bool → ℕ → List Rule
+readRules img e i fmt n =
     BadLength if (contiguous e and oddLength n)
     ∷ PastEnd if ended img e i
-    ∷ BadLength if (not (contiguous e) and ltb n (length (recordAt img e i)))
+    ∷ BadLength if (not (contiguous e) and ltb n (length (handedAs fmt e (recordAt img e i))))
     ∷ []
 
 -- RULES, Read: to the front of the buffer, the rest of which stays
-unfoldable pub reading : List ℕ → List ℕ → ℕ → List ℕ → Moving
-reading img e i buf = moving e i (length (dataAt img e i (length buf))) img (over (dataAt img e i (length buf)) buf)
+unfoldable pub reading : List ℕ → List ℕ → ℕ → Bool → List ℕ → Moving
+reading img e i fmt buf = moving e i (length (dataAt img e i fmt (length buf))) img (over (dataAt img e i fmt (length buf)) buf)
 
 -- RULES, Status numbers: $C2 of a write; of a contiguous file, to start at or past the extent and to cross it are one rule
 unfoldable pub beyond : List ℕ → List ℕ → ℕ → ℕ → Bool
 beyond img e i n = if contiguous e then ended img e i or ltb (extent img e) (i + n / 256) else ltb (extent img e) i
 
--- RULES, Status numbers: the sectors and segments that an append needs: $63, $65
+-- RULES, Status numbers: the sectors and segments that an append of the bytes stored needs: $63, $65
 unfoldable pub roomRules : List ℕ → List ℕ → List ℕ → List Rule
-roomRules img e bs =
-    NoRoom if (not (contiguous e) and ltb (free img) (needed img e bs))
-    ∷ NoSegment if (not (contiguous e) and ltb mostSegments (length (newPairs img e bs)))
+roomRules img e ss =
+    NoRoom if (not (contiguous e) and ltb (free img) (needed img e ss))
+    ∷ NoSegment if (not (contiguous e) and ltb mostSegments (length (newPairs img e ss)))
     ∷ []
 
--- RULES, Orders of refusals: write, from $84 on: $84, $C2, $62, $63, $65
-unfoldable pub writeRules : List ℕ → List ℕ → ℕ → List ℕ → List Rule
-writeRules img e i bs =
-    BadLength if wrongLength e bs
-    ∷ PastEnd if beyond img e i (length bs)
-    ∷ Exists if (not (contiguous e) and ltb i (extent img e))
-    ∷ roomRules img e bs
+-- RULES, Orders of refusals: write, from $84 on: $84, $C2, $62, $63, $65; after $84 the bytes stored count
+unfoldable pub storeRules : List ℕ → List ℕ → ℕ → List ℕ → List Rule
+storeRules img e i ss =
+    PastEnd if beyond img e i (length ss) ∷ Exists if (not (contiguous e) and ltb i (extent img e)) ∷ roomRules img e ss
+
+unfoldable pub writeRules : List ℕ → List ℕ → ℕ → Bool → List ℕ → List Rule
+writeRules img e i fmt bs = BadLength if unfit fmt e bs ∷ storeRules img e i (storedAs fmt e bs)
 
 unfoldable pub written : List ℕ → ℕ → List ℕ → List ℕ → List ℕ
-written e i bs img = if contiguous e then overwritten e i bs img else appended e bs img
+written e i ss img = if contiguous e then overwritten e i ss img else appended e ss img
 
-unfoldable pub writing : List ℕ → List ℕ → ℕ → List ℕ → Moving
-writing img e i bs = moving e i (length bs) (written e i bs img) bs
+-- RULES, Texts: the length answered is that of the bytes sent
+unfoldable pub writing : List ℕ → List ℕ → ℕ → Bool → List ℕ → Moving
+writing img e i fmt bs = moving e i (length bs) (written e i (storedAs fmt e bs) img) bs
 
--- RULES, Orders of refusals: update, after the opening that all transfers share: $82 (contiguous), $84, $C2, $61
-unfoldable pub updateRules : List ℕ → List ℕ → ℕ → List ℕ → List Rule
-updateRules img e i bs =
-    BadRequest if contiguous e
-    ∷ BadLength if wrongLength e bs
-    ∷ PastEnd if ended img e i
-    ∷ OtherLength if not (eqb (length bs) (length (recordAt img e i)))
-    ∷ []
+-- RULES, Orders of refusals: update, after the opening that all transfers share: $82 (contiguous), $84, $C2, $61; after $84 the bytes
+-- stored count
+unfoldable pub replaceRules : List ℕ → List ℕ → ℕ → List ℕ → List Rule
+replaceRules img e i ss = PastEnd if ended img e i ∷ OtherLength if not (eqb (length ss) (length (recordAt img e i))) ∷ []
 
-unfoldable pub updating : List ℕ → List ℕ → ℕ → List ℕ → Moving
-updating img e i bs = moving e i (length bs) (updated e i bs img) bs
+unfoldable pub updateRules : List ℕ → List ℕ → ℕ → Bool → List ℕ → List Rule
+updateRules img e i fmt bs = BadRequest if contiguous e ∷ BadLength if unfit fmt e bs ∷ replaceRules img e i (storedAs fmt e bs)
+
+unfoldable pub updating : List ℕ → List ℕ → ℕ → Bool → List ℕ → Moving
+updating img e i fmt bs = moving e i (length bs) (updated e i (storedAs fmt e bs) img) bs
 
 unfoldable pub transfers-open : Unit {0}
-unfolding units moving oddLength wrongLength ended readable dataAt readRules reading beyond roomRules writeRules written writing updateRules
-    updating
+unfolding units moving oddLength wrongLength asText storedAs handedAs unfit ended readable dataAt readRules reading beyond roomRules
+    storeRules writeRules written writing replaceRules updateRules updating
 transfers-open = tt

@@ -5,6 +5,7 @@ pub mod formatting;
 pub mod lengths;
 pub mod making;
 pub mod reading;
+pub mod texts;
 pub mod updating;
 pub mod writing;
 

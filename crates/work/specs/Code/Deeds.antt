@@ -1,14 +1,17 @@
 -- What the work of a call comes to, as its function hands it back: its answer, and image and buffer after it. Each is the rules of the
 -- call's own, and then its change.
+use mathlib.Core.Bool.{Bool}
 use mathlib.Core.List.{List, []}
 use Prim.Native.Nat.{ℕ}
 use lib.ListN.{length}
 use Rattle.lists.specs.Parts.{sectors}
 use Rattle.volume.specs.Formatted.{formatted}
+use Rattle.files.specs.Changes.{updated}
 use Rattle.work.specs.declared.Worked.{Worked}
 use Rattle.work.specs.declared.Worked.the-variants.{Denied, Did}
 use Rattle.work.specs.Refusals.{Rule, ruled}
-use Rattle.work.specs.Transfers.{Moving, readRules, reading, writeRules, writing, roomRules, updateRules, updating}
+use Rattle.work.specs.Transfers.{Moving, moving, readRules, reading, storeRules, writeRules, written, writing, roomRules}
+use Rattle.work.specs.Transfers.{replaceRules, updateRules, updating}
 use Rattle.work.specs.Volumes.{formatRules, allocateRules, newFile, placeRules, namedRules, slotOf}
 use Rattle.work.specs.declared.Sought.{Sought}
 use Rattle.work.specs.declared.Sought.the-variants as sought
@@ -32,18 +35,25 @@ moved m = deed (Did (m .bytes) (m .from) (m .count)) (m .image) (m .buffer)
 unfoldable pub quiet : List ℕ → Deed
 quiet img = deed (Did 0 0 0) img []
 
-unfoldable pub readDeed : List ℕ → List ℕ → ℕ → List ℕ → Deed
-readDeed img e i buf = doneBy (readRules img e i (length buf)) img buf (moved (reading img e i buf))
+unfoldable pub readDeed : List ℕ → List ℕ → ℕ → Bool → List ℕ → Deed
+readDeed img e i fmt buf = doneBy (readRules img e i fmt (length buf)) img buf (moved (reading img e i fmt buf))
 
-unfoldable pub writeDeed : List ℕ → List ℕ → ℕ → List ℕ → Deed
-writeDeed img e i bs = doneBy (writeRules img e i bs) img bs (moved (writing img e i bs))
+unfoldable pub writeDeed : List ℕ → List ℕ → ℕ → Bool → List ℕ → Deed
+writeDeed img e i fmt bs = doneBy (writeRules img e i fmt bs) img bs (moved (writing img e i fmt bs))
 
--- a record that may be written as number i, if there is room for it
-unfoldable pub appendDeed : List ℕ → List ℕ → ℕ → List ℕ → Deed
-appendDeed img e i bs = doneBy (roomRules img e bs) img bs (moved (writing img e i bs))
+unfoldable pub updateDeed : List ℕ → List ℕ → ℕ → Bool → List ℕ → Deed
+updateDeed img e i fmt bs = doneBy (updateRules img e i fmt bs) img bs (moved (updating img e i fmt bs))
 
-unfoldable pub updateDeed : List ℕ → List ℕ → ℕ → List ℕ → Deed
-updateDeed img e i bs = doneBy (updateRules img e i bs) img bs (moved (updating img e i bs))
+-- Of a record that is stored as ss for the bytes bs that were sent, which are of a good length: as number i; if it is the next one, as
+-- far as there is room for it; in the place of record i
+unfoldable pub storeDeed : List ℕ → List ℕ → ℕ → List ℕ → List ℕ → Deed
+storeDeed img e i ss bs = doneBy (storeRules img e i ss) img bs (moved (moving e i (length bs) (written e i ss img) bs))
+
+unfoldable pub appendDeed : List ℕ → List ℕ → ℕ → List ℕ → List ℕ → Deed
+appendDeed img e i ss bs = doneBy (roomRules img e ss) img bs (moved (moving e i (length bs) (written e i ss img) bs))
+
+unfoldable pub replaceDeed : List ℕ → List ℕ → ℕ → List ℕ → List ℕ → Deed
+replaceDeed img e i ss bs = doneBy (replaceRules img e i ss) img bs (moved (moving e i (length bs) (updated e i ss img) bs))
 
 unfoldable pub formatDeed : List ℕ → List ℕ → ℕ → Deed
 formatDeed img id n = doneBy (formatRules img id n) img [] (quiet (formatted id n (sectors img)))

@@ -3,7 +3,7 @@ use mathlib.Core.List.{List, [], _∷_}
 use mathlib.Core.Bool.{Bool}
 use Prim.Native.Nat.{ℕ, _+_, _-_, _*_, _/_}
 use lib.Dec.{leb, ltb}
-use lib.ListN.{length, getD}
+use lib.ListN.{length}
 use Rattle.lists.specs.Lists.{if_then_else_, _or_}
 use Rattle.lists.specs.Parts.{part, over}
 use Rattle.work.specs.Refusals.{_if_}
@@ -24,12 +24,12 @@ unfoldable pub readRun : List ℕ → ℕ → ℕ → ℕ → List ℕ → Deed
 readRun img s n i buf =
     doneBy (BadLength if oddLength (length buf) ∷ PastEnd if leb n i ∷ []) img buf (ranRead img s i (fewer n i (length buf / 256)) buf)
 
--- of these records: number i
-unfoldable pub readOne : List ℕ → List (List ℕ) → ℕ → List ℕ → Deed
-readOne img rs i buf =
+-- of n records: number i, of which the bytes bs are handed over
+unfoldable pub readOne : List ℕ → ℕ → ℕ → List ℕ → List ℕ → Deed
+readOne img n i bs buf =
     doneBy
-    (PastEnd if leb (length rs) i ∷ BadLength if ltb (length buf) (length (getD rs i [])) ∷ [])
-    img buf (deed (Did (length (getD rs i [])) i 1) img (over (getD rs i []) buf))
+    (PastEnd if leb n i ∷ BadLength if ltb (length buf) (length bs) ∷ [])
+    img buf (deed (Did (length bs) i 1) img (over bs buf))
 
 -- k sectors from number i on start at or past the end of n, or cross it
 unfoldable pub crosses : ℕ → ℕ → ℕ → Bool

@@ -57,7 +57,7 @@ returns-2 c =
     let at-opened2 = at-opened2 in
     let at-open = at-open in
     let opened2 = at-opened2 in
-    rw (c .settle .ensures) (read-told _ _ _ _ _ _ _ _ (sym (at-open .ensures) ∙ opened2 .given .1) _ _ (c .before .before .before .read .ensures))
+    rw (c .settle .ensures) (read-told _ _ _ _ _ _ _ _ _ (sym (at-open .ensures) ∙ opened2 .given .1) _ _ (c .before .before .before .read .ensures))
 
 pub read-spec : {M : Type 1} → statement M
 read-spec =

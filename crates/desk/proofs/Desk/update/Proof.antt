@@ -60,7 +60,7 @@ returns-2 c =
     let at-opened2 = at-opened2 in
     let at-open = at-open in
     let opened2 = at-opened2 in
-    rw (c .settle .ensures) (update-told _ _ _ _ _ _ _ _ (sym (at-open .ensures) ∙ opened2 .given .1) _ _ (c .before .before .before .update .ensures))
+    rw (c .settle .ensures) (update-told _ _ _ _ _ _ _ _ _ (sym (at-open .ensures) ∙ opened2 .given .1) _ _ (c .before .before .before .update .ensures))
 
 pub update-spec : {M : Type 1} → statement M
 update-spec =

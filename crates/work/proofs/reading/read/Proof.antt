@@ -3,7 +3,7 @@ use native.Mathlib.Omega.{arith}
 use borrow.Author.Needs.{needs}
 use Rattle.files.proofs.SlotInUse.{used-run}
 use Rattle.work.proofs.Bounds.{run-few}
-use Rattle.work.proofs.Readings.{run-read, record-read}
+use Rattle.work.proofs.Readings.{run-read, text-read, plain-read}
 use Rattle.work.proofs.reading.read.Statement.{statement}
 use Rattle.work.proofs.reading.read.Tie as tie
 
@@ -40,21 +40,43 @@ returns c =
     let runs = sym (t .before .is-contiguous .ensures) ∙ t .if1 .taken in
     c .before .before .read-run .ensures
     ∙ rw (start-of .ensures, sectors-in .ensures)
-    (run-read _ _ _ _ runs (used-run _ _ _ (t .before .before .before .before .pre) runs))
+    (run-read _ _ _ _ _ runs (used-run _ _ _ (t .before .before .before .before .pre) runs))
 
-read-one-requires : tie.Need-read-one-requires
-read-one-requires c κs =
-    let at-pre = c .before .before .before .before .before .pre in
-    let pre = at-pre in
-    (pre, sym (c .before .before .is-contiguous .ensures) ∙ c .before .if1 .left)
+as-text-requires : tie.Need-as-text-requires
+as-text-requires c κs = (c .before .before .before .before .pre, sym (c .before .is-contiguous .ensures) ∙ c .if1 .left)
+
+read-text-requires : tie.Need-read-text-requires
+read-text-requires c κs =
+    let e = c .before .before .before in
+    (e .before .before .before .before .pre, sym (e .before .is-contiguous .ensures) ∙ e .if1 .left)
 
 same-length-2 : tie.Need-same-length-2
 same-length-2 c = search needs
 
 returns-2 : tie.Need-returns-2
 returns-2 c =
-    let t = c .before .before .before .before in
-    c .before .before .read-one .ensures ∙ record-read _ _ _ _ (sym (t .before .is-contiguous .ensures) ∙ t .if1 .left)
+    let at-if2 = c .before .before .before .before in
+    let x = at-if2 in
+    let t = sym (x .before .as-text .ensures) ∙ x .if2 .taken in
+    c .before .before .read-text .ensures
+    ∙ text-read _ _ _ _ _ t
+
+read-one-requires : tie.Need-read-one-requires
+read-one-requires c κs =
+    let e = c .before .before .before in
+    (e .before .before .before .before .pre, sym (e .before .is-contiguous .ensures) ∙ e .if1 .left)
+
+same-length-3 : tie.Need-same-length-3
+same-length-3 c = search needs
+
+returns-3 : tie.Need-returns-3
+returns-3 c =
+    let at-if2 = c .before .before .before .before in
+    let x = at-if2 in
+    let e = x .before .before in
+    let t = sym (x .before .as-text .ensures) ∙ x .if2 .left in
+    c .before .before .read-one .ensures
+    ∙ plain-read _ _ _ _ _ t (sym (e .before .is-contiguous .ensures) ∙ e .if1 .left)
 
 pub read-spec : {M : Type 1} → statement M
 read-spec =
@@ -66,6 +88,10 @@ read-spec =
     read-run-requires
     same-length
     returns
-    read-one-requires
+    as-text-requires
+    read-text-requires
     same-length-2
-    returns-2)
+    returns-2
+    read-one-requires
+    same-length-3
+    returns-3)

@@ -1,14 +1,7 @@
-use mathlib.Core.Path.{sym, _∙_, _≡_}
-use mathlib.Core.Bool.{false, true}
-use native.Mathlib.Omega.{arith}
-use denote.Ref.{now}
+use mathlib.Core.Path.{sym, _∙_}
 use borrow.Author.Needs.{needs}
-use borrow.Author.Tests.{not-true, not-false}
-use Rattle.volume.specs.Directory.{entryAt, contiguous, recordLength}
-use Rattle.records.specs.Records.{allowed}
-use Rattle.records.proofs.RecordStreams.{allowed-small}
-use Rattle.work.proofs.Updates.{update-contiguous, update-wrong, replaced-there, update-came}
-use Rattle.work.proofs.Bounds.{records-few}
+use Rattle.work.proofs.TextRules.{text-asked}
+use Rattle.work.proofs.Updates.{update-contiguous, plain-update}
 use Rattle.work.proofs.updating.update.Statement.{statement}
 use Rattle.work.proofs.updating.update.Tie as tie
 
@@ -19,101 +12,47 @@ same-length : tie.Need-same-length
 same-length c = search needs
 
 returns : tie.Need-returns
-returns c = update-contiguous _ _ _ _ (sym (c .before .is-contiguous .ensures) ∙ c .if1 .taken)
+returns c = update-contiguous _ _ _ _ _ (sym (c .before .is-contiguous .ensures) ∙ c .if1 .taken)
 
-record-length-requires : tie.Need-record-length-requires
-record-length-requires c κs = search needs
+as-text-requires : tie.Need-as-text-requires
+as-text-requires c κs =
+    let at-pre = c .before .before .before .before .before .before .pre in
+    let pre = at-pre in
+    (pre, sym (c .before .before .is-contiguous .ensures) ∙ c .before .if1 .left)
 
-allowed-requires : tie.Need-allowed-requires
-allowed-requires c κs = search needs
+update-text-requires : tie.Need-update-text-requires
+update-text-requires c κs =
+    let at-pre = c .before .before .before .before .before .before .before .before .before .pre in
+    let pre = at-pre in
+    let t = sym (c .before .before .as-text .ensures) ∙ c .before .if2 .taken in
+    (pre, rw (text-asked _ _ t) at t)
 
 same-length-2 : tie.Need-same-length-2
 same-length-2 c = search needs
 
-sequential : (c : tie.Else1)
-    → let a = c .before .before .before .before .before .args in
-    contiguous (entryAt (now (a .image)) (a .slot)) ≡ false
-sequential c = sym (c .before .is-contiguous .ensures) ∙ c .if1 .left
-
-abbrev entry : tie.After-allowed → tie.Start
-entry c =
-    let at-before = c .before .before .before .before .before .before .before .before in
-    let before = at-before in
-    before
-
-asked : (c : tie.After-allowed)
-    → let a = entry c .args in
-    allowed (recordLength (entryAt (now (a .image)) (a .slot))) (now (a .«data»)) ≡ c .allowed .result
-asked c = rw (← c .before .record-length .ensures) (sym (c .allowed .ensures))
-
 returns-2 : tie.Need-returns-2
 returns-2 c =
-    let e = c .before .before .before .before in
-    update-wrong _ _ _ _ (sequential e) (asked (c .before) ∙ not-true _ (c .if2 .taken))
+    let at-if2 = c .before .before .before .before in
+    let x = at-if2 in
+    let t = sym (x .before .as-text .ensures) ∙ x .if2 .taken in
+    rw (text-asked _ _ t) (c .before .before .update-text .ensures)
 
-fine : (c : tie.Else2)
-    → let a = entry (c .before) .args in
-    allowed (recordLength (entryAt (now (a .image)) (a .slot))) (now (a .«data»)) ≡ true
-fine c = asked (c .before) ∙ not-false _ (c .if2 .left)
-
-update-record-requires : tie.Need-update-record-requires
-update-record-requires c κs =
-    let at-before = c .before .before .before .before .before in
-    let before = at-before in
-    let e = before in
-    (e .before .before .before .before .before .pre, sequential e)
-
-enum-told : tie.Need-enum-told
-enum-told c = search needs
-
-enum-told-2 : tie.Need-enum-told-2
-enum-told-2 c = search needs
-
-enum-told-3 : tie.Need-enum-told-3
-enum-told-3 c = search needs
-
-cast-t23 : tie.Need-cast-t23
-cast-t23 c =
-    let at-before = c .before .before .before .before .before .before in
-    let before = at-before in
-    omega (arith, allowed-small _ _ (fine (before)))
-
-cast-t24 : tie.Need-cast-t24
-cast-t24 c =
-    let r = c .before .before .before .before in
-    let e = r .before .before .before .before .before .before in
-    omega (
-      arith,
-      replaced-there _ _ _ _ (sym (r .update-record .ensures .0) ∙ c .enum-told3 .given .1),
-      records-few _ _ _ (e .before .before .before .before .before .pre) (sequential e),
-    )
+update-one-requires : tie.Need-update-one-requires
+update-one-requires c κs =
+    let at-pre = c .before .before .before .before .before .before .before .before .before .pre in
+    let at-if1 = c .before .before .before .before in
+    let pre = at-pre in
+    let e = at-if1 in
+    (pre, sym (e .before .is-contiguous .ensures) ∙ e .if1 .left)
 
 same-length-3 : tie.Need-same-length-3
 same-length-3 c = search needs
 
 returns-3 : tie.Need-returns-3
 returns-3 c =
-    let r = c .before .before .before .before in
-    rw (c .enum-told .given .1) at
-    (update-came _ _ _ _ (sequential (r .before .before .before .before .before .before)) (fine (r .before .before)) _ _ (r .update-record .ensures))
-
-same-length-4 : tie.Need-same-length-4
-same-length-4 c = search needs
-
-returns-4 : tie.Need-returns-4
-returns-4 c =
-    let r = c .before .before .before .before in
-    rw (c .enum-told2 .given .1) at
-    (update-came _ _ _ _ (sequential (r .before .before .before .before .before .before)) (fine (r .before .before)) _ _ (r .update-record .ensures))
-
-same-length-5 : tie.Need-same-length-5
-same-length-5 c = search needs
-
-returns-5 : tie.Need-returns-5
-returns-5 c =
-    let r = c .before .before .before .before in
-    rw (c .enum-told3 .given .1) at
-    (update-came _ _ _ _ (sequential (r .before .before .before .before .before .before)) (fine (r .before .before)) _ _ (r .update-record .ensures))
+    let at-if2 = c .before .before .before .before in
+    let x = at-if2 in
+    c .before .before .update-one .ensures ∙ plain-update _ _ _ _ _ (sym (x .before .as-text .ensures) ∙ x .if2 .left)
 
 pub update-spec : {M : Type 1} → statement M
 update-spec =
@@ -122,19 +61,10 @@ update-spec =
     is-contiguous-requires
     same-length
     returns
-    record-length-requires
-    allowed-requires
+    as-text-requires
+    update-text-requires
     same-length-2
     returns-2
-    update-record-requires
-    enum-told
-    enum-told-2
-    enum-told-3
-    cast-t23
-    cast-t24
+    update-one-requires
     same-length-3
-    returns-3
-    same-length-4
-    returns-4
-    same-length-5
-    returns-5)
+    returns-3)

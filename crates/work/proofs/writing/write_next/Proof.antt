@@ -1,10 +1,8 @@
 use Prim.Native.Nat.{_≤_}
-use native.Mathlib.Omega.{arith}
 use denote.Ref.{now}
 use borrow.Author.Needs.{needs}
 use Rattle.volume.specs.Directory.{entryAt}
 use Rattle.volume.specs.Sat.{free}
-use Rattle.records.proofs.RecordStreams.{allowed-small}
 use Rattle.files.specs.Changes.{needed}
 use Rattle.work.proofs.Writes.{next-full, next-split, next-written}
 use Rattle.work.proofs.writing.write_next.Statement.{statement}
@@ -21,20 +19,20 @@ same-length c = search needs
 
 returns : tie.Need-returns
 returns c =
-    let at-pre = c .before .before .before .before .before .before .before .pre in
+    let at-pre = c .before .before .before .before .before .before .before .before .pre in
     let pre = at-pre in
-    next-full _ _ _ _ (pre .1 .sequential)
+    next-full _ _ _ _ _ (pre .1 .sequential)
     (rw (c .before .before .before .free-sectors .ensures, c .before .needed-sectors .ensures) at (c .if1 .taken))
 
 abbrev entry : tie.Else1 → tie.Start
 entry c =
-    let at-before = c .before .before .before .before .before .before .before in
+    let at-before = c .before .before .before .before .before .before .before .before in
     let before = at-before in
     before
 
 enough : (c : tie.Else1)
     → let a = entry c .args in
-    needed (now (a .image)) (entryAt (now (a .image)) (a .slot)) (now (a .«data»)) ≤ free (now (a .image))
+    needed (now (a .image)) (entryAt (now (a .image)) (a .slot)) (now (a .stored)) ≤ free (now (a .image))
 enough c = rw (c .before .before .before .free-sectors .ensures, c .before .needed-sectors .ensures) at (c .if1 .left)
 
 segments-after-requires : tie.Need-segments-after-requires
@@ -46,19 +44,16 @@ same-length-2 c = search needs
 returns-2 : tie.Need-returns-2
 returns-2 c =
     let e = c .before .before .before in
-    next-split _ _ _ _ (entry e .pre .1 .sequential) (enough e) (rw (c .before .segments-after .ensures) at (c .if2 .taken))
+    next-split _ _ _ _ _ (entry e .pre .1 .sequential) (enough e) (rw (c .before .segments-after .ensures) at (c .if2 .taken))
 
 append-requires : tie.Need-append-requires
 append-requires c κs = search needs
 
-cast-t20 : tie.Need-cast-t20
-cast-t20 c =
-    let at-before = c .before .before .before .before .before .before .before in
-    let before = at-before in
-    omega (arith, allowed-small _ _ (entry (before) .pre .1 .fine))
-
 cast-t21 : tie.Need-cast-t21
 cast-t21 c = search needs
+
+cast-t22 : tie.Need-cast-t22
+cast-t22 c = search needs
 
 same-length-3 : tie.Need-same-length-3
 same-length-3 c = search needs
@@ -73,7 +68,7 @@ returns-3 c =
     let if2 = at-if2 in
     let e = before in
     rw (c .before .before .append .ensures)
-    (next-written _ _ _ _ (entry e .pre .1 .sequential) (enough e)
+    (next-written _ _ _ _ _ (entry e .pre .1 .sequential) (enough e)
     (rw (segments-after .ensures) at (if2 .left)))
 
 pub write-next-spec : {M : Type 1} → statement M
@@ -88,7 +83,7 @@ write-next-spec =
     same-length-2
     returns-2
     append-requires
-    cast-t20
     cast-t21
+    cast-t22
     same-length-3
     returns-3)

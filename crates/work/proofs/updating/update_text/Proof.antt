@@ -1,0 +1,90 @@
+use mathlib.Core.Path.{_≡_, sym, _∙_}
+use mathlib.Core.Bool.{true}
+use Prim.Native.Nat.{_≤_}
+use native.Mathlib.Omega.{arith}
+use lib.Dec.{leb}
+use lib.ListN.{length, take}
+use lib.Seq.{length-take-le}
+use denote.Ref.{now}
+use borrow.Author.Needs.{needs}
+use borrow.Author.Tests.{not-true, not-false, leb-true}
+use Rattle.numbers.specs.Numbers.{recordLimit}
+use Rattle.lists.specs.Lists.{_and_}
+use Rattle.lists.proofs.Fronts.{over-front}
+use Rattle.lists.proofs.Tests.{and-left}
+use Rattle.text.specs.Packing.{isText, packed}
+use Rattle.work.proofs.TextRules.{text-sequential}
+use Rattle.work.proofs.Updates.{text-update-wrong, text-update-fine}
+use Rattle.work.proofs.updating.update_text.Statement.{statement}
+use Rattle.work.proofs.updating.update_text.Tie as tie
+
+text-fits-requires : tie.Need-text-fits-requires
+text-fits-requires c κs = search needs
+
+returns : tie.Need-returns
+returns c =
+    text-update-wrong _ _ _ _ (c .before .before .before .before .pre .1) (sym (c .before .text-fits .ensures) ∙ not-true _ (c .if1 .taken))
+
+abbrev entry : tie.Else1 → tie.Start
+entry c = c .before .before .before .before
+
+fits : (c : tie.Else1)
+    → let a = entry c .args in
+    (leb (length (now (a .«data»))) recordLimit and isText (now (a .«data»))) ≡ true
+fits c = sym (c .before .text-fits .ensures) ∙ not-false _ (c .if1 .left)
+
+short : (c : tie.Else1)
+    → let a = entry c .args in
+    length (now (a .«data»)) ≤ recordLimit
+short c = leb-true _ _ (and-left _ _ (fits c))
+
+slice-aggregate-pack : tie.Need-slice-aggregate-pack
+slice-aggregate-pack c = search needs
+
+pack-requires : tie.Need-pack-requires
+pack-requires c κs = short (c .before)
+
+-- the front of the local array
+front-of : (c : tie.After-pack)
+    → let a = entry (c .before .before) .args in
+    take (c .pack .result) (c .pack .last .1 .0) ≡ packed (now (a .«data»))
+front-of c = rw (c .pack .ensures .2, c .pack .ensures .0) (over-front (packed (now (entry (c .before .before) .args .«data»))) _)
+
+in-array : (c : tie.After-pack) → c .pack .result ≤ length (c .pack .last .1 .0)
+in-array c = omega (arith, c .pack .ensures .1, short (c .before .before), c .pack .kept .1 .0)
+
+array-share-prefix-packed : tie.Need-array-share-prefix-packed
+array-share-prefix-packed c = in-array (c .before .before)
+
+slice-aggregate-replace-by : tie.Need-slice-aggregate-replace-by
+slice-aggregate-replace-by c = sym (length-take-le _ _ (in-array (c .before .before .before)))
+
+replace-by-requires : tie.Need-replace-by-requires
+replace-by-requires c κs =
+    let p = c .before .before .before in
+    let s = entry (p .before .before) in
+    (s .pre .0, text-sequential _ _ (s .pre .1), short (p .before .before))
+
+same-length : tie.Need-same-length
+same-length c = search needs
+
+returns-2 : tie.Need-returns-2
+returns-2 c =
+    let at-pack = c .before .before .before .before .before .before in
+    let p = at-pack in
+    c .before .before .replace-by .ensures
+    ∙ rw (front-of p) (text-update-fine _ _ _ _ (entry (p .before .before) .pre .1) (fits (p .before .before)))
+
+pub update-text-spec : {M : Type 1} → statement M
+update-text-spec =
+    tie.close
+    (tie.spec
+    text-fits-requires
+    returns
+    slice-aggregate-pack
+    pack-requires
+    array-share-prefix-packed
+    slice-aggregate-replace-by
+    replace-by-requires
+    same-length
+    returns-2)
