@@ -11,7 +11,7 @@ use lib.Seq.{drop-cons, drop-length, paste-suc}
 use lib.Dec.{eqb}
 use borrow.Author.Tests.{eq-eqb, ne-eqb}
 use Rattle.lists.specs.Lists.{_and_, all, same}
-use Rattle.lists.specs.Parts.{blanks, over}
+use Rattle.lists.specs.Parts.{over}
 use Rattle.lists.proofs.Bools.{and-false}
 
 -- p passes at what is left as at the whole
@@ -50,9 +50,8 @@ module _ (a b : List ℕ) (i : ℕ) where
   same-end h g = rw (drop-of-length-le a h, drop-of-length-le b g)
 
 -- a list filled to its end, one byte more of a copy
-pub fill-all : (d : List ℕ) (i : ℕ) → i ≤ length d → length d ≤ i → replicate i 0 ++ drop i d ≡ blanks (length d)
-unfolding blanks
-fill-all d i h g = let e : i ≡ length d = omega arith in rw (e, drop-length d, append-nil)
+pub fill-all : (v : ℕ) (d : List ℕ) (i : ℕ) → i ≤ length d → length d ≤ i → replicate i v ++ drop i d ≡ replicate (length d) v
+fill-all v d i h g = let e : i ≡ length d = omega arith in rw (e, drop-length d, append-nil)
 
 pub over-all : (src part : List ℕ) → length part ≤ length src → over src part ≡ src
 unfolding over

@@ -1,7 +1,7 @@
 // Bytes, words and parts of a lent image.
 ghost use mathlib.Core.Path.{_≡_};
 ghost use Prim.Native.Nat.{_<_, _+_, _*_, _≤_, _/_, _%_};
-ghost use lib.ListN.{length};
+ghost use lib.ListN.{length, replicate};
 ghost use Rattle.lists.specs.Parts.{word, bytes2, put, blanks, zeros, over, sector, part};
 ghost use mathlib.Core.List.{_++_};
 ghost use Rattle.lists.specs.Lists.{same};
@@ -45,15 +45,22 @@ pub fn put_long(s: &mut [u8], i: usize, v: usize)
     put_word(s, i + 2, v % 65536);
 }
 
+// Makes every byte of a part v.
+pub fn fill(part: &mut [u8], v: u8)
+    ensures { λ _. ⌜ now (part .exit) ≡ replicate (length (now (part .entry))) v ⌝ }
+{
+    let mut i = 0;
+    while i < part.len() {
+        part[i] = v;
+        i += 1;
+    }
+}
+
 // Zeroes a part.
 pub fn clear(part: &mut [u8])
     ensures { λ _. ⌜ now (part .exit) ≡ blanks (length (now (part .entry))) ⌝ }
 {
-    let mut i = 0;
-    while i < part.len() {
-        part[i] = 0;
-        i += 1;
-    }
+    fill(part, 0);
 }
 
 pub fn all_zero(s: &[u8]) -> bool

@@ -1,12 +1,12 @@
 -- What a stored byte stands for, case by case, and unpacking byte by byte.
 use mathlib.Core.Path.{_≡_, refl, sym}
-use mathlib.Core.List.{List, [], _∷_, _++_, append-assoc, append-nil}
+use mathlib.Core.List.{List, [], _∷_, _++_, append-assoc}
 use Prim.Native.Nat.{ℕ, _+_, _-_, _<_, _≤_}
 use native.Mathlib.Decide.{decLt}
 use native.Mathlib.Numerals.{add-one}
 use native.Mathlib.Omega.{arith}
 use lib.ListN.{length, getD, drop, drop-of-length-le, replicate, length-replicate}
-use lib.Seq.{drop-cons, drop-length}
+use lib.Seq.{drop-cons}
 use borrow.Author.Tests.{lt-ltb, le-ltb}
 use Rattle.text.specs.Packing.{space, mark, shown, unpacked}
 
@@ -37,10 +37,6 @@ shown-long b h = elim (decLt b mark) [
 
 pub spaces-shown : (b n : ℕ) → mark ≤ b → n ≡ length (shown b) → replicate n space ≡ shown b
 spaces-shown b n h e = rw (e, length-spaces b h) (sym (shown-spaces b h))
-
--- a part filled to its end
-pub spaces-all : (d : List ℕ) (i : ℕ) → i ≤ length d → length d ≤ i → replicate i space ++ drop i d ≡ replicate (length d) space
-spaces-all d i h g = let e : i ≡ length d = omega arith in rw (e, drop-length d, append-nil)
 
 -- what is left to unpack from byte i on
 module _ (s : List ℕ) (i : ℕ) where

@@ -5,6 +5,9 @@ ghost use Prim.Native.Nat.{_+_, _≤_};
 ghost use lib.ListN.{length};
 ghost use Rattle.lists.specs.Parts.{put, over};
 ghost use Rattle.text.specs.Packing.{space, mostSpaces, isText, rest, goesOut, heldAfter, packed};
+use crate::FULL;
+use crate::MARK;
+use crate::MOST_SPACES;
 
 /// Whether all bytes are below $80.
 pub fn is_text(bytes: &[u8]) -> bool
@@ -12,7 +15,7 @@ pub fn is_text(bytes: &[u8]) -> bool
 {
     let mut i = 0;
     while i < bytes.len() {
-        if 128 <= bytes[i] {
+        if MARK <= bytes[i] {
             return false;
         }
         i += 1;
@@ -28,7 +31,7 @@ fn rest_byte(k: usize) -> u8
     if k == 1 {
         return b' ';
     }
-    (128 + k) as u8
+    MARK + k as u8
 }
 
 // Writes the rest of a run at n. This and the next two hand back the place after what they wrote.
@@ -48,8 +51,8 @@ fn put_full(out: &mut [u8], n: usize, k: usize) -> usize
     requires { ⌜ n + length (goesOut k space) ≤ length (now out) ⌝ }
     ensures { λ r. ⌜ (r ≡ n + length (goesOut k space)) × (now (out .exit) ≡ put n (goesOut k space) (now (out .entry))) ⌝ }
 {
-    if k == 127 {
-        out[n] = 255;
+    if k == MOST_SPACES {
+        out[n] = FULL;
         return n + 1;
     }
     n
@@ -76,7 +79,7 @@ fn held_after(k: usize, b: u8) -> usize
     if b != b' ' {
         return 0;
     }
-    if k == 127 {
+    if k == MOST_SPACES {
         return 1;
     }
     k + 1

@@ -1,29 +1,21 @@
 // A packed text, unpacked: each stored byte gives itself, or spaces.
 ghost use mathlib.Core.Path.{_≡_};
 ghost use Prim.Native.Nat.{_+_, _*_, _≤_};
-ghost use lib.ListN.{length, replicate};
+ghost use lib.ListN.{length};
 ghost use Rattle.lists.specs.Parts.{put, over};
-ghost use Rattle.text.specs.Packing.{space, shown, unpacked};
+ghost use Rattle.text.specs.Packing.{mostSpaces, shown, unpacked};
+use crate::MARK;
+use lists::parts::fill;
 use lists::parts::wide;
 
 // How many bytes of text a stored byte stands for.
 fn shown_length(b: u8) -> usize
-    ensures { λ r. ⌜ (r ≡ length (shown b)) × (r ≤ 127) ⌝ }
+    ensures { λ r. ⌜ (r ≡ length (shown b)) × (r ≤ mostSpaces) ⌝ }
 {
-    if b < 128 {
+    if b < MARK {
         return 1;
     }
-    wide(b) - 128
-}
-
-fn fill_spaces(part: &mut [u8])
-    ensures { λ _. ⌜ now (part .exit) ≡ replicate (length (now (part .entry))) space ⌝ }
-{
-    let mut i = 0;
-    while i < part.len() {
-        part[i] = b' ';
-        i += 1;
-    }
+    wide(b - MARK)
 }
 
 // Hands back the place after what it wrote.
@@ -31,19 +23,19 @@ fn put_shown(buffer: &mut [u8], n: usize, b: u8) -> usize
     requires { ⌜ n + length (shown b) ≤ length (now buffer) ⌝ }
     ensures { λ r. ⌜ (r ≡ n + length (shown b)) × (now (buffer .exit) ≡ put n (shown b) (now (buffer .entry))) ⌝ }
 {
-    if b < 128 {
+    if b < MARK {
         buffer[n] = b;
         return n + 1;
     }
     let e = n + shown_length(b);
-    fill_spaces(&mut buffer[n..e]);
+    fill(&mut buffer[n..e], b' ');
     e
 }
 
 /// How long the text is that the stored bytes stand for.
 pub fn text_length(stored: &[u8]) -> usize
     requires { ⌜ length (now stored) ≤ 65536 ⌝ }
-    ensures { λ r. ⌜ (r ≡ length (unpacked (now (stored .entry)))) × (r ≤ 127 * length (now (stored .entry))) ⌝ }
+    ensures { λ r. ⌜ (r ≡ length (unpacked (now (stored .entry)))) × (r ≤ mostSpaces * length (now (stored .entry))) ⌝ }
 {
     let mut n = 0;
     let mut i = 0;

@@ -1,14 +1,5 @@
-// The image's bytes: cleared, copied and summed.
+// The image's bytes: copied and summed.
 use crate::print::least;
-
-/// Every byte becomes 0.
-pub(crate) fn clear(s: &mut [u8]) {
-    let mut i = 0;
-    while i < s.len() {
-        s[i] = 0;
-        i += 1;
-    }
-}
 
 /// Puts all of `s` into `image` from `at` on, and answers whether it lies inside.
 pub(crate) fn poke(image: &mut [u8], at: usize, s: &[u8]) -> bool {

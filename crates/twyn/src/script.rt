@@ -91,7 +91,7 @@ fn bytes_at(command: usize) -> usize
 }
 
 // Whether the command transfers a text, as the command of the same name without `-text` transfers bytes.
-fn is_text(command: usize) -> bool {
+fn is_formatted(command: usize) -> bool {
     (command == WRITE_TEXT) | (command == UPDATE_TEXT) | (command == READ_TEXT)
 }
 
@@ -141,7 +141,7 @@ pub(crate) fn parsed(line: &[u8], over: bool) -> Call {
         three: three.value,
         four: four.value,
         five: five.value,
-        formatted: is_text(command),
+        formatted: is_formatted(command),
         count: brought.count,
         data: data,
     }

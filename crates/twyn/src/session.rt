@@ -12,6 +12,7 @@ use crate::store::Room;
 use desk::Desk;
 use desk::Reply;
 use desk::answers::accepts;
+use lists::parts::clear;
 
 /// The desk, the image's length, and whether the image was changed; whether it is known that it can be written back; whether the
 /// run is broken, so that nothing is written back; and the line that is to be printed.
@@ -70,7 +71,7 @@ fn fresh(image: &mut [u8], s: Session, n: u32) -> Session {
     if n as usize != s.size {
         return s;
     }
-    image::clear(image);
+    clear(image);
     let d = Desk::empty();
     let mut t = said(s, Text::empty().word(b"new").number(n as u64));
     t.desk = d;

@@ -30,17 +30,17 @@ shown-length-requires c κs = search needs
 add-e : tie.Need-add-e
 add-e c = search needs
 
-sub-fill-spaces : tie.Need-sub-fill-spaces
-sub-fill-spaces c = search needs
+sub-fill : tie.Need-sub-fill
+sub-fill c = search needs
 
-part-fill-spaces-start : tie.Need-part-fill-spaces-start
-part-fill-spaces-start c = search needs
+part-fill-start : tie.Need-part-fill-start
+part-fill-start c = search needs
 
-part-fill-spaces-end : tie.Need-part-fill-spaces-end
-part-fill-spaces-end c = search needs
+part-fill-end : tie.Need-part-fill-end
+part-fill-end c = search needs
 
-fill-spaces-requires : tie.Need-fill-spaces-requires
-fill-spaces-requires c κs = search needs
+fill-requires : tie.Need-fill-requires
+fill-requires c κs = search needs
 
 same-length-2 : tie.Need-same-length-2
 same-length-2 c = search needs
@@ -52,7 +52,7 @@ returns-2 c =
     let e = a .n + r .result in
     let long = mid-len (a .n) e (now (a .buffer)) (omega arith) in
     let is = spaces-shown (a .b) (e - a .n) (c .before .before .before .before .before .if1 .left) (omega arith) in
-    let filled = c .before .before .fill-spaces .ensures ∙ ap (λ (m : ℕ). replicate m space) long ∙ is in
+    let filled = c .before .before .fill .ensures ∙ ap (λ (m : ℕ). replicate m space) long ∙ is in
     (omega arith, wrote (a .n) e (now (a .buffer)) _ _ (omega arith) filled (omega arith))
 
 pub put-shown-spec : {M : Type 1} → statement M
@@ -65,9 +65,9 @@ put-shown-spec =
     returns
     shown-length-requires
     add-e
-    sub-fill-spaces
-    part-fill-spaces-start
-    part-fill-spaces-end
-    fill-spaces-requires
+    sub-fill
+    part-fill-start
+    part-fill-end
+    fill-requires
     same-length-2
     returns-2)

@@ -11,11 +11,8 @@ returns c = (sym (length-self _ (c .if1 .taken)), omega arith)
 wide-requires : tie.Need-wide-requires
 wide-requires c κs = search needs
 
-sub-result : tie.Need-sub-result
-sub-result c = search needs
-
 returns-2 : tie.Need-returns-2
 returns-2 c = (omega (arith, length-spaces (c .before .before .args .b) (c .before .if1 .left)), omega arith)
 
 pub shown-length-spec : {M : Type 1} → statement M
-shown-length-spec = tie.close (tie.spec returns wide-requires sub-result returns-2)
+shown-length-spec = tie.close (tie.spec returns wide-requires returns-2)
