@@ -6,7 +6,7 @@ use lib.ListN.{take, drop}
 use Rattle.lists.specs.Lists.{flat}
 use Rattle.lists.specs.Parts.{sector, putSector, filled}
 use Rattle.lists.proofs.AreBytes.{Bytes}
-use Rattle.volume.proofs.ByteLists.{bytes-append, bytes-sector, bytes-take, bytes-drop, bytes-filled, bytes-putSector}
+use Rattle.lists.proofs.ByteLists.{bytes-append, bytes-sector, bytes-take, bytes-drop, bytes-filled, bytes-putSector}
 use Rattle.records.specs.Streams.{laidOut, laid}
 use Rattle.ownership.specs.Blocks.{block, streamLength}
 use Rattle.ownership.specs.Owners.{logical}

@@ -14,7 +14,7 @@ use Rattle.lists.proofs.Keeps.{Keeps}
 use Rattle.volume.specs.Volume.{satAt, dirs, sat}
 use Rattle.volume.specs.Directory.{entryAt, unused, contiguous, start, recordLength}
 use Rattle.volume.specs.Sat.{free}
-use Rattle.volume.proofs.ByteLists.{bytes-put}
+use Rattle.lists.proofs.ByteLists.{bytes-put}
 use Rattle.records.specs.Records.{allowed, streamOf, wholeRecords, recordsOf}
 use Rattle.records.specs.Code.Walk.{headOf, placeOf}
 use Rattle.records.proofs.RecordReplaced.{Updated, updated-records}

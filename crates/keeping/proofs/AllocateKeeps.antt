@@ -27,7 +27,8 @@ use Rattle.volume.proofs.EntryClashes.{namesDiffer-set}
 use Rattle.volume.proofs.RunFound.{sectors-part}
 use Rattle.volume.proofs.SatAccounts.{distinct-in, sat-marked}
 use Rattle.volume.proofs.EntryFields.{descriptor-length, entry-length, entry-contiguous, entry-used, entry-described, entry-start, entry-size, entry-valid}
-use Rattle.volume.proofs.ByteLists.{bytes-put, bytes-putSector, bytes-blanks, bytes-entry}
+use Rattle.lists.proofs.ByteLists.{bytes-put, bytes-putSector, bytes-blanks}
+use Rattle.volume.proofs.EntryBytes.{bytes-entry}
 use Rattle.records.specs.Streams.{laidOut}
 use Rattle.ownership.specs.Blocks.{block, streamLength, placed}
 use Rattle.ownership.specs.Owners.{logical, owned, allOwned}

@@ -15,7 +15,7 @@ use Rattle.lists.proofs.Tests.{and-left, and-right}
 use Rattle.volume.specs.Volume.{satAt, dirs, sat}
 use Rattle.volume.specs.Directory.{entryAt, unused, contiguous, start, recordLength}
 use Rattle.volume.specs.Sat.{withBits, free, putSat}
-use Rattle.volume.proofs.ByteLists.{bytes-append, bytes-blanks, bytes-bytes2, bytes-nil, bytes-take, bytes-drop, bytes-filled, bytes-sector, bytes-putSector}
+use Rattle.lists.proofs.ByteLists.{bytes-append, bytes-blanks, bytes-bytes2, bytes-nil, bytes-take, bytes-drop, bytes-filled, bytes-sector, bytes-putSector}
 use Rattle.volume.proofs.Bits.{length-satOf}
 use Rattle.volume.proofs.BitsSet.{bytes-withBits}
 use Rattle.volume.proofs.SatChanged.{bytes-satOf}

@@ -20,7 +20,7 @@ use Rattle.volume.specs.Sat.{withBits, satOf, putSat}
 use Rattle.volume.proofs.BitsSet.{length-withBits, bytes-withBits}
 use Rattle.volume.proofs.EntryClashes.{unused-before, unused-after, namesDiffer-set}
 use Rattle.volume.proofs.SatAccounts.{sat-cleared}
-use Rattle.volume.proofs.ByteLists.{bytes-put, bytes-putSector, bytes-blanks}
+use Rattle.lists.proofs.ByteLists.{bytes-put, bytes-putSector, bytes-blanks}
 use Rattle.ownership.specs.Owners.{owned, allOwned}
 use Rattle.ownership.proofs.OwnedRuns.{owned-unused}
 use Rattle.files.specs.Files.{sound}

@@ -26,7 +26,7 @@ use Rattle.volume.specs.Formatted.{freshLayout, trailerOf, formatted}
 use Rattle.volume.proofs.Bits.{length-satOf}
 use Rattle.volume.proofs.SatChanged.{bytes-satOf}
 use Rattle.volume.proofs.EntryClashes.{names-replicate}
-use Rattle.volume.proofs.ByteLists.{bytes-append, bytes-blanks, bytes-bytes2, bytes-filled}
+use Rattle.lists.proofs.ByteLists.{bytes-append, bytes-blanks, bytes-bytes2, bytes-filled}
 use Rattle.ownership.specs.Blocks.{placed, sound3}
 use Rattle.ownership.specs.Owners.{owned, allOwned, sound5}
 use Rattle.ownership.proofs.OwnedRuns.{owned-unused}

@@ -18,7 +18,7 @@ use Rattle.lists.proofs.Puts.{part-put-same, part-put-before, part-put-after}
 use Rattle.volume.specs.Directory.{start, entryAt, unused, contiguous, size}
 use Rattle.volume.specs.Volume.{satAt, dirs}
 use Rattle.volume.specs.Sat.{free}
-use Rattle.volume.proofs.ByteLists.{bytes-put}
+use Rattle.lists.proofs.ByteLists.{bytes-put}
 use Rattle.ownership.specs.Blocks.{placed}
 use Rattle.ownership.specs.Owners.{logical, owned}
 use Rattle.files.specs.Changes.{overwritten, sectorsAt}

@@ -1,6 +1,7 @@
 pub mod AreBytes
 pub mod Blanks
 pub mod Bools
+pub mod ByteLists
 pub mod FirstFound
 pub mod Fronts
 pub mod IndexFound

@@ -1,5 +1,5 @@
 -- Everything that was asked for, proved.
-use Rattle.text.proofs.PackedText.{unpacked-packed, packed-one-one}
+use Rattle.text.proofs.PackedText.{unpacked-packed, packed-one-one, packed-stands}
 use Rattle.text.proofs.PackedLength.{packed-shorter}
 use Rattle.records.proofs.RecordStreams.{streamOf-injective}
 use Rattle.promises.specs.Steps.{small-volume}
@@ -19,7 +19,7 @@ use Rattle.promises.proofs.Updating.{accepted-update}
 use Rattle.promises.proofs.Preserved.{stays-good, stays-sound, runs-are-visits, other-files-kept, others-kept, frame-kept}
 use Rattle.promises.proofs.Lasting.{lasts-through, append-ends-none}
 use Rattle.promises.proofs.ReadBack.{written-is-read, written-sector-is-read, updated-is-read}
-use Rattle.promises.proofs.TextsKept.{written-text-is-read, updated-text-is-read, no-empty-byte, longest-text, run-by-run, option-ignored}
+use Rattle.promises.proofs.TextsKept.{written-text-is-read, updated-text-is-read, longest-text, run-by-run, option-ignored}
 use Rattle.promises.proofs.NeverPastEnd.{never-past-end}
 use Rattle.promises.proofs.Conclusions.{not-all-refused, not-all-done, not-unchanged, not-only-E, check-counts}
 
@@ -58,7 +58,7 @@ demands = record {
   packed-reads-back = unpacked-packed;
   no-two-stored-alike = packed-one-one;
   never-longer = packed-shorter;
-  no-empty-byte = no-empty-byte;
+  no-empty-byte = packed-stands;
   longest-text = longest-text;
   run-by-run = run-by-run;
   samples-packed = samples-packed;

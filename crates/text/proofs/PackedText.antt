@@ -1,17 +1,17 @@
 -- A text comes back from its packed form, so no two texts have the same; and no byte of it stands for nothing.
 use mathlib.Core.Path.{_≡_, refl, ap, sym, _∙_}
-use mathlib.Core.Bool.{Bool, true, not}
+use mathlib.Core.Bool.{Bool, true}
 use mathlib.Core.List.{List, [], _∷_, _++_, append-assoc, append-nil}
-use Prim.Native.Nat.{ℕ, _+_, _-_, _<_}
+use Prim.Native.Nat.{ℕ, _+_, _-_, _<_, _≤_}
 use native.Mathlib.Omega.{arith}
-use lib.ListN.{replicate, replicate-append-replicate}
-use lib.Dec.{eqb}
-use borrow.Author.Tests.{ltb-true, ne-eqb}
+use lib.ListN.{length, replicate, replicate-append-replicate}
+use lib.Dec.{leb}
+use borrow.Author.Tests.{ltb-true, le-leb}
 use Rattle.lists.specs.Lists.{all}
 use Rattle.lists.proofs.Lists.{all-head, all-tail, all-append, all-cons, all-nil}
 use Rattle.text.specs.Packing.{space, mark, mostSpaces, isText, shown, unpacked, rest, goesOut, heldAfter, packedFrom, packed}
 use Rattle.text.proofs.PackingSteps.{each-rest, each-step}
-use Rattle.text.proofs.UnpackingSteps.{unpacked-append, shown-self, shown-spaces}
+use Rattle.text.proofs.UnpackingSteps.{unpacked-append, shown-self, shown-spaces, length-self, length-spaces}
 
 unpacked-one : (b : ℕ) → unpacked (b ∷ []) ≡ shown b
 unfolding unpacked
@@ -53,17 +53,25 @@ packed-one-one t u h g e = sym (unpacked-packed t h) ∙ ap unpacked e ∙ unpac
 
 -- a byte that stands for something
 abbrev stands : ℕ → Bool
-stands b = not (eqb b mark)
+stands b = leb 1 (length (shown b))
+
+stands-self : (b : ℕ) → b < mark → stands b ≡ true
+stands-self b h = let l : 1 ≤ length (shown b) = omega (arith, length-self b h) in le-leb _ _ l
+
+stands-run : (k : ℕ) → 1 ≤ k → stands (mark + k) ≡ true
+stands-run k h = let l : 1 ≤ length (shown (mark + k)) = omega (arith, length-spaces (mark + k) (omega arith)) in le-leb _ _ l
 
 rest-stands : (k : ℕ) → all stands (rest k) ≡ true
 rest-stands =
-    each-rest (λ k x. all stands x ≡ true) (all-nil stands) (all-cons stands space [] refl (all-nil stands))
-    (λ k h. all-cons stands (mark + k) [] (ap not (ne-eqb (mark + k) mark (λ e. omega arith))) (all-nil stands))
+    each-rest (λ k x. all stands x ≡ true) (all-nil stands) (all-cons stands space [] (stands-self space (omega arith)) (all-nil stands))
+    (λ k h. all-cons stands (mark + k) [] (stands-run k (omega arith)) (all-nil stands))
 
 step-stands : (k b : ℕ) → b < mark → all stands (goesOut k b) ≡ true
 step-stands =
-    each-step (λ k b x m. b < mark → all stands x ≡ true) (λ h. all-cons stands (mark + mostSpaces) [] refl (all-nil stands)) (λ k g h. all-nil stands)
-    (λ k b g h. all-append stands (rest k) (b ∷ []) (rest-stands k) (all-cons stands b [] (ap not (ne-eqb b mark (λ e. omega arith))) (all-nil stands)))
+    each-step (λ k b x m. b < mark → all stands x ≡ true)
+    (λ h. all-cons stands (mark + mostSpaces) [] (stands-run mostSpaces (omega arith)) (all-nil stands))
+    (λ k g h. all-nil stands)
+    (λ k b g h. all-append stands (rest k) (b ∷ []) (rest-stands k) (all-cons stands b [] (stands-self b h) (all-nil stands)))
 
 from-stands : (k : ℕ) (t : List ℕ) → isText t ≡ true → all stands (packedFrom k t) ≡ true
 unfolding isText packedFrom
@@ -71,6 +79,6 @@ from-stands k [] h = rest-stands k
 from-stands k (b ∷ t) h =
     all-append stands (goesOut k b) (packedFrom (heldAfter k b) t) (step-stands k b (ltb-true b mark (all-head _ b t h))) (from-stands (heldAfter k b) t (all-tail _ b t h))
 
-pub packed-no-mark : (t : List ℕ) → isText t ≡ true → all (λ b. not (eqb b mark)) (packed t) ≡ true
+pub packed-stands : (t : List ℕ) → isText t ≡ true → all (λ b. leb 1 (length (shown b))) (packed t) ≡ true
 unfolding packed
-packed-no-mark t h = from-stands 0 t h
+packed-stands t h = from-stands 0 t h

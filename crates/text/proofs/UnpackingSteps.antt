@@ -8,7 +8,7 @@ use native.Mathlib.Omega.{arith}
 use lib.ListN.{length, getD, drop, drop-of-length-le, replicate, length-replicate}
 use lib.Seq.{drop-cons}
 use borrow.Author.Tests.{lt-ltb, le-ltb}
-use Rattle.text.specs.Packing.{space, mark, shown, unpacked}
+use Rattle.text.specs.Packing.{space, mark, mostSpaces, shown, unpacked}
 
 pub unpacked-append : (s t : List ℕ) → unpacked (s ++ t) ≡ unpacked s ++ unpacked t
 unfolding unpacked
@@ -29,7 +29,7 @@ length-self b h = rw (shown-self b h)
 pub length-spaces : (b : ℕ) → mark ≤ b → length (shown b) ≡ b - mark
 length-spaces b h = rw (shown-spaces b h) (length-replicate (b - mark) space)
 
-pub shown-long : (b : ℕ) → b < 256 → length (shown b) ≤ 127
+pub shown-long : (b : ℕ) → b < 256 → length (shown b) ≤ mostSpaces
 shown-long b h = elim (decLt b mark) [
   | yes l ↦ omega (arith, length-self b l)
   | no g ↦ omega (arith, length-spaces b (omega arith))

@@ -28,7 +28,7 @@ use Rattle.volume.specs.Code.Located.{LaidOut}
 use Rattle.volume.specs.declared.locate.Layout.{Layout}
 use Rattle.volume.proofs.BitsSet.{sat-numbers, marked-withBits, bytes-withBits, length-withBits, withBits-append}
 use Rattle.volume.proofs.Bits.{sat-is, length-satOf}
-use Rattle.volume.proofs.ByteLists.{bytes-blanks}
+use Rattle.lists.proofs.ByteLists.{bytes-blanks}
 
 -- a write over a part of the same length
 pub put-seam : (a b c d : List ℕ) (i : ℕ) → length a ≡ i → length c ≡ length b → put i b (a ++ (c ++ d)) ≡ a ++ (b ++ d)

@@ -1,7 +1,7 @@
 pub mod BitShifts
 pub mod Bits
 pub mod BitsSet
-pub mod ByteLists
+pub mod EntryBytes
 pub mod EntryClashes
 pub mod EntryFields
 pub mod EntryWritten

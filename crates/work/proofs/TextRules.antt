@@ -17,6 +17,7 @@ use Rattle.text.proofs.PackedLength.{packed-shorter}
 use Rattle.text.proofs.PackedBytes.{packed-bytes}
 use Rattle.volume.specs.Directory.{contiguous, recordLength}
 use Rattle.records.specs.Records.{allowed}
+use Rattle.work.specs.Code.Runs.{textFits}
 use Rattle.work.specs.Transfers.{units, wrongLength, asText, storedAs, handedAs, unfit}
 
 both-wrong : (a t : Bool) → (not (a and true) or not t) ≡ not (a and t)
@@ -49,8 +50,8 @@ module _ (fmt : Bool) (e : List ℕ) where
     unfolding handedAs
     text-handed ss = rw t
 
-    pub text-unfit : (bs : List ℕ) → unfit fmt e bs ≡ not (leb (length bs) recordLimit and isText bs)
-    unfolding unfit wrongLength allowed _and_ _or_
+    pub text-unfit : (bs : List ℕ) → unfit fmt e bs ≡ not (textFits bs)
+    unfolding unfit wrongLength allowed textFits _and_ _or_
     text-unfit bs = rw (t, text-sequential, text-variable) (both-wrong (leb (length bs) recordLimit) (isText bs))
 
   -- of the bytes as they are
@@ -67,6 +68,21 @@ module _ (fmt : Bool) (e : List ℕ) where
     unfolding unfit _and_
     plain-unfit bs = rw t (or-false (wrongLength e bs))
 
+-- a transfer that was not asked for as formatted is of the bytes as they are
+module _ (e : List ℕ) where
+  not-asked : asText false e ≡ false
+  unfolding asText _and_
+  not-asked = refl
+
+  pub sent-stored : (bs : List ℕ) → storedAs false e bs ≡ bs
+  sent-stored bs = plain-stored false e not-asked bs
+
+  pub sent-handed : (ss : List ℕ) → handedAs false e ss ≡ ss
+  sent-handed ss = plain-handed false e not-asked ss
+
+  pub sent-unfit : (bs : List ℕ) → unfit false e bs ≡ wrongLength e bs
+  sent-unfit bs = plain-unfit false e not-asked bs
+
 -- of a sequential file's record length as the code has it
 pub as-asked : (fmt : Bool) (e : List ℕ) (l : ℕ) → contiguous e ≡ false → l ≡ recordLength e → fmt && eqb l 0 ≡ asText fmt e
 unfolding asText
@@ -78,13 +94,20 @@ unfolding asText _and_
 contiguous-plain true e c = rw c
 contiguous-plain false e c = refl
 
--- a text that fits is stored as a record that is allowed
-pub packed-allowed : (e bs : List ℕ) → recordLength e ≡ 0 → (leb (length bs) recordLimit and isText bs) ≡ true
+-- a text that fits is short, and is stored as a record that is allowed
+pub fits-short : (bs : List ℕ) → textFits bs ≡ true → length bs ≤ recordLimit
+unfolding textFits
+fits-short bs h = leb-true _ _ (and-left _ _ h)
+
+pub fits-text : (bs : List ℕ) → textFits bs ≡ true → isText bs ≡ true
+unfolding textFits
+fits-text bs h = and-right _ _ h
+
+pub packed-allowed : (e bs : List ℕ) → recordLength e ≡ 0 → textFits bs ≡ true
     → allowed (recordLength e) (packed bs) ≡ true
 unfolding allowed _or_
 packed-allowed e bs v h =
-    let l : length bs ≤ recordLimit = leb-true _ _ (and-left _ _ h) in
-    let m : length (packed bs) ≤ recordLimit = omega (arith, packed-shorter bs, l) in
+    let m : length (packed bs) ≤ recordLimit = omega (arith, packed-shorter bs, fits-short bs h) in
     both-true _ _ (le-leb _ _ m) (rw v)
 
 allowed-right : (e r : List ℕ) → contiguous e ≡ false → allowed (recordLength e) r ≡ true → wrongLength e r ≡ false
@@ -104,14 +127,14 @@ module _ (fmt : Bool) (e bs : List ℕ) where
       go true c = rw (c, stored-run c)
       go false c = rw c
 
-  pub fit-text : unfit fmt e bs ≡ false → asText fmt e ≡ true → (leb (length bs) recordLimit and isText bs) ≡ true
-  fit-text h t = not-false _ (sym (text-unfit fmt e t bs) ∙ h)
+  pub sent-fits : unfit fmt e bs ≡ false → asText fmt e ≡ true → textFits bs ≡ true
+  sent-fits h t = not-false _ (sym (text-unfit fmt e t bs) ∙ h)
 
   pub stored-fit : unfit fmt e bs ≡ false → wrongLength e (storedAs fmt e bs) ≡ false
   stored-fit h = go (asText fmt e) refl
     where
       go : (b : Bool) → asText fmt e ≡ b → wrongLength e (storedAs fmt e bs) ≡ false
-      go true t = rw (text-stored fmt e t bs) (allowed-right e (packed bs) (text-sequential fmt e t) (packed-allowed e bs (text-variable fmt e t) (fit-text h t)))
+      go true t = rw (text-stored fmt e t bs) (allowed-right e (packed bs) (text-sequential fmt e t) (packed-allowed e bs (text-variable fmt e t) (sent-fits h t)))
       go false t = rw (plain-stored fmt e t bs) (sym (plain-unfit fmt e t bs) ∙ h)
 
   pub stored-bytes : Bytes bs → Bytes (storedAs fmt e bs)

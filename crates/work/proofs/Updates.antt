@@ -5,11 +5,10 @@ use mathlib.Core.List.{List}
 use Prim.Native.Nat.{ℕ, _<_}
 use native.Mathlib.Omega.{arith}
 use lib.ListN.{length}
-use lib.Dec.{eqb, ltb, leb}
+use lib.Dec.{eqb, ltb}
 use borrow.Author.Tests.{ltb-true, le-leb, lt-leb, ltb-false}
-use Rattle.numbers.specs.Numbers.{recordLimit}
-use Rattle.lists.specs.Lists.{if_then_else_, _and_, _or_}
-use Rattle.text.specs.Packing.{isText, packed}
+use Rattle.lists.specs.Lists.{if_then_else_, _and_}
+use Rattle.text.specs.Packing.{packed}
 use Rattle.volume.specs.Directory.{contiguous, recordLength}
 use Rattle.records.specs.Records.{allowed}
 use Rattle.files.specs.Files.{records, recordAt, extent}
@@ -20,9 +19,10 @@ use Rattle.work.specs.declared.Refusal.the-variants.{PastEnd, OtherLengt
 use Rattle.work.specs.declared.Worked.{Worked}
 use Rattle.work.specs.declared.Worked.the-variants.{Did, Denied}
 use Rattle.work.specs.Refusals.{ruled}
-use Rattle.work.specs.Transfers.{units, moving, wrongLength, asText, storedAs, unfit, ended, replaceRules, updateRules, updating}
+use Rattle.work.specs.Transfers.{units, moving, wrongLength, asText, ended, replaceRules, updateRules, updating}
+use Rattle.work.specs.Code.Runs.{textFits}
 use Rattle.work.specs.Code.Deeds.{deed, doneBy, moved, updateDeed, replaceDeed}
-use Rattle.work.proofs.TextRules.{plain-unfit, plain-stored, text-sequential, text-unfit, text-stored}
+use Rattle.work.proofs.TextRules.{plain-unfit, plain-stored, sent-unfit, sent-stored, text-sequential, text-unfit, text-stored}
 use Rattle.files.specs.declared.replace.Replaced.the-variants as replaced
 
 -- a record that was replaced is there
@@ -43,9 +43,8 @@ answered replaced.Done i n = Did n i 1
 module _ (img e : List ℕ) (i : ℕ) (bs : List ℕ) where
   -- a transfer that is not of text is one that was not asked for as such
   pub plain-update : (fmt : Bool) → asText fmt e ≡ false → updateDeed img e i false bs ≡ updateDeed img e i fmt bs
-  unfolding updateDeed updateRules updating asText _and_
-  plain-update fmt t =
-      rw (plain-unfit fmt e t bs, plain-stored fmt e t bs, plain-unfit false e refl bs, plain-stored false e refl bs) refl
+  unfolding updateDeed updateRules updating
+  plain-update fmt t = rw (plain-unfit fmt e t bs, plain-stored fmt e t bs, sent-unfit e bs, sent-stored e bs) refl
 
   pub update-contiguous : (fmt : Bool) → contiguous e ≡ true → deed (Denied BadRequest) img bs ≡ updateDeed img e i fmt bs
   unfolding updateDeed updateRules doneBy ruled
@@ -54,20 +53,20 @@ module _ (img e : List ℕ) (i : ℕ) (bs : List ℕ) where
   -- as it is sent
   module _ (c : contiguous e ≡ false) where
     pub update-wrong : allowed (recordLength e) bs ≡ false → deed (Denied BadLength) img bs ≡ updateDeed img e i false bs
-    unfolding updateDeed updateRules unfit wrongLength doneBy ruled _or_
-    update-wrong a = rw (c, a)
+    unfolding updateDeed updateRules wrongLength doneBy ruled
+    update-wrong a = rw (sent-unfit e bs, c, a)
 
     pub update-fine : allowed (recordLength e) bs ≡ true → replaceDeed img e i bs bs ≡ updateDeed img e i false bs
-    unfolding updateDeed replaceDeed updateRules updating unfit asText storedAs wrongLength doneBy ruled _and_ _or_
-    update-fine a = rw (c, a)
+    unfolding updateDeed replaceDeed updateRules updating wrongLength doneBy ruled
+    update-fine a = rw (sent-unfit e bs, sent-stored e bs, c, a)
 
   -- as a text
   module _ (t : asText true e ≡ true) where
-    pub text-update-wrong : (leb (length bs) recordLimit and isText bs) ≡ false → deed (Denied BadLength) img bs ≡ updateDeed img e i true bs
+    pub text-update-wrong : textFits bs ≡ false → deed (Denied BadLength) img bs ≡ updateDeed img e i true bs
     unfolding updateDeed updateRules doneBy ruled
     text-update-wrong a = rw (text-sequential true e t, text-unfit true e t bs, a)
 
-    pub text-update-fine : (leb (length bs) recordLimit and isText bs) ≡ true → replaceDeed img e i (packed bs) bs ≡ updateDeed img e i true bs
+    pub text-update-fine : textFits bs ≡ true → replaceDeed img e i (packed bs) bs ≡ updateDeed img e i true bs
     unfolding updateDeed replaceDeed updateRules updating doneBy ruled
     text-update-fine a = rw (text-sequential true e t, text-unfit true e t bs, text-stored true e t bs, a)
 

@@ -5,25 +5,24 @@ use mathlib.Core.List.{List}
 use Prim.Native.Nat.{ℕ, _/_, _≤_, _<_, _+_, _*_, _%_}
 use native.Mathlib.Omega.{arith}
 use lib.ListN.{length}
-use lib.Dec.{leb}
 use borrow.Author.Tests.{ltb-false, leb-false, eqb-true, not-false, lt-ltb, le-ltb}
-use Rattle.numbers.specs.Numbers.{mostSegments, mostMoved, recordLimit}
-use Rattle.lists.specs.Lists.{_and_, _or_}
+use Rattle.numbers.specs.Numbers.{mostSegments, mostMoved}
+use Rattle.lists.specs.Lists.{_and_}
 use Rattle.lists.proofs.Tests.{or-right, or-left}
-use Rattle.text.specs.Packing.{isText, packed}
+use Rattle.text.specs.Packing.{packed}
 use Rattle.volume.specs.Directory.{contiguous, recordLength, size}
 use Rattle.volume.specs.Sat.{free}
 use Rattle.records.specs.Records.{allowed}
 use Rattle.files.specs.Files.{extent}
 use Rattle.files.specs.Changes.{needed, newPairs, appended, overwritten}
-use Rattle.work.specs.Transfers.{oddLength, units, moving, wrongLength, asText, storedAs, unfit, ended, beyond, roomRules}
+use Rattle.work.specs.Transfers.{oddLength, units, moving, wrongLength, asText, ended, beyond, roomRules}
 use Rattle.work.specs.Transfers.{storeRules, writeRules, written, writing}
-use Rattle.work.specs.Code.Runs.{crosses}
+use Rattle.work.specs.Code.Runs.{crosses, textFits}
 use Rattle.work.specs.declared.Refusal.the-variants.{BadLength, PastEnd, Exists, NoRoom, NoSegment}
 use Rattle.work.specs.declared.Worked.the-variants.{Did, Denied}
 use Rattle.work.specs.Refusals.{ruled}
 use Rattle.work.specs.Code.Deeds.{deed, doneBy, moved, writeDeed, storeDeed, appendDeed}
-use Rattle.work.proofs.TextRules.{plain-unfit, plain-stored, text-unfit, text-stored}
+use Rattle.work.proofs.TextRules.{plain-unfit, plain-stored, sent-unfit, sent-stored, text-unfit, text-stored}
 
 -- whole sectors, and where they lie in a run
 pub odd-few : (m : ℕ) → oddLength m ≡ false → (m / 256 ≤ mostMoved) × (m ≤ 256 * mostMoved)
@@ -46,42 +45,40 @@ run-bytes n i m h c =
 module _ (img e : List ℕ) (i : ℕ) (bs : List ℕ) where
   -- a transfer that is not of text is one that was not asked for as such
   pub plain-write : (fmt : Bool) → asText fmt e ≡ false → writeDeed img e i false bs ≡ writeDeed img e i fmt bs
-  unfolding writeDeed writeRules writing asText _and_
-  plain-write fmt t =
-      rw (plain-unfit fmt e t bs, plain-stored fmt e t bs, plain-unfit false e refl bs, plain-stored false e refl bs) refl
+  unfolding writeDeed writeRules writing
+  plain-write fmt t = rw (plain-unfit fmt e t bs, plain-stored fmt e t bs, sent-unfit e bs, sent-stored e bs) refl
 
   -- sectors of a contiguous file
   module _ (c : contiguous e ≡ true) where
     pub run-odd : oddLength (length bs) ≡ true → deed (Denied BadLength) img bs ≡ writeDeed img e i false bs
-    unfolding writeDeed writeRules unfit wrongLength doneBy ruled _or_
-    run-odd a = rw (c, a)
+    unfolding writeDeed writeRules wrongLength doneBy ruled
+    run-odd a = rw (sent-unfit e bs, c, a)
 
     module _ (a : oddLength (length bs) ≡ false) where
       pub run-crosses : crosses (size e) i (length bs / 256) ≡ true → deed (Denied PastEnd) img bs ≡ writeDeed img e i false bs
-      unfolding writeDeed writeRules storeRules unfit asText storedAs wrongLength beyond ended extent crosses doneBy ruled _and_ _or_
-      run-crosses b = rw (c, a, b)
+      unfolding writeDeed writeRules storeRules wrongLength beyond ended extent crosses doneBy ruled
+      run-crosses b = rw (sent-unfit e bs, sent-stored e bs, c, a, b)
 
       pub run-written : crosses (size e) i (length bs / 256) ≡ false
           → deed (Did (length bs) i (length bs / 256)) (overwritten e i bs img) bs ≡ writeDeed img e i false bs
-      unfolding writeDeed writeRules storeRules roomRules unfit asText storedAs wrongLength beyond ended extent crosses writing written moving moved units doneBy
-          ruled _and_ _or_
-      run-written b = rw (c, a, b)
+      unfolding writeDeed writeRules storeRules roomRules wrongLength beyond ended extent crosses writing written moving moved units doneBy ruled _and_
+      run-written b = rw (sent-unfit e bs, sent-stored e bs, c, a, b)
 
   -- a record of a sequential one: as it is sent, or as a text
   pub record-wrong : contiguous e ≡ false → allowed (recordLength e) bs ≡ false → deed (Denied BadLength) img bs ≡ writeDeed img e i false bs
-  unfolding writeDeed writeRules unfit wrongLength doneBy ruled _or_
-  record-wrong c a = rw (c, a)
+  unfolding writeDeed writeRules wrongLength doneBy ruled
+  record-wrong c a = rw (sent-unfit e bs, c, a)
 
   pub record-fine : contiguous e ≡ false → allowed (recordLength e) bs ≡ true → storeDeed img e i bs bs ≡ writeDeed img e i false bs
-  unfolding writeDeed storeDeed writeRules writing unfit asText storedAs wrongLength doneBy ruled _and_ _or_
-  record-fine c a = rw (c, a)
+  unfolding writeDeed storeDeed writeRules writing wrongLength doneBy ruled
+  record-fine c a = rw (sent-unfit e bs, sent-stored e bs, c, a)
 
   module _ (t : asText true e ≡ true) where
-    pub text-wrong : (leb (length bs) recordLimit and isText bs) ≡ false → deed (Denied BadLength) img bs ≡ writeDeed img e i true bs
+    pub text-wrong : textFits bs ≡ false → deed (Denied BadLength) img bs ≡ writeDeed img e i true bs
     unfolding writeDeed writeRules doneBy ruled
     text-wrong a = rw (text-unfit true e t bs, a)
 
-    pub text-fine : (leb (length bs) recordLimit and isText bs) ≡ true → storeDeed img e i (packed bs) bs ≡ writeDeed img e i true bs
+    pub text-fine : textFits bs ≡ true → storeDeed img e i (packed bs) bs ≡ writeDeed img e i true bs
     unfolding writeDeed storeDeed writeRules writing doneBy ruled
     text-fine a = rw (text-unfit true e t bs, text-stored true e t bs, a)
 

@@ -51,7 +51,7 @@ storedAs fmt e bs = if asText fmt e then packed bs else bs
 unfoldable pub handedAs : Bool → List ℕ → List ℕ → List ℕ
 handedAs fmt e ss = if asText fmt e then unpacked ss else ss
 
--- RULES, Status numbers: $84 of a write or update, its bytes being as they are sent: the length; or, of a text, a byte of $80 or more
+-- RULES, Status numbers: $84 of a write or update: the length of the bytes sent; or, in a transfer of text, one of $80 or more
 unfoldable pub unfit : Bool → List ℕ → List ℕ → Bool
 unfit fmt e bs = wrongLength e bs or asText fmt e and not (isText bs)
 

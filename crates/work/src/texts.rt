@@ -1,14 +1,10 @@
 // Transfers of text: which they are, and which bytes may be sent as a text.
 ghost use mathlib.Core.Path.{_≡_};
 ghost use mathlib.Core.Bool.{false};
-ghost use lib.Dec.{leb};
-ghost use lib.ListN.{length};
-ghost use Rattle.numbers.specs.Numbers.{recordLimit};
-ghost use Rattle.lists.specs.Lists.{_and_};
-ghost use Rattle.text.specs.Packing.{isText};
 ghost use Rattle.volume.specs.Directory.{entryAt, contiguous};
 ghost use Rattle.files.specs.Code.Slots.{InUse};
 ghost use Rattle.work.specs.Transfers.{asText};
+ghost use Rattle.work.specs.Code.Runs.{textFits};
 use files::slot::record_length;
 use numbers::RECORD_LIMIT;
 use text::packing::is_text;
@@ -25,7 +21,7 @@ pub fn as_text(image: &[u8], p: Layout, slot: usize, formatted: bool) -> bool
 
 /// Whether these bytes may be sent as a text: no more than the record limit before they are packed, each below $80.
 pub fn text_fits(data: &[u8]) -> bool
-    ensures { λ r. ⌜ r ≡ (leb (length (now («data» .entry))) recordLimit and isText (now («data» .entry))) ⌝ }
+    ensures { λ r. ⌜ r ≡ textFits (now («data» .entry)) ⌝ }
 {
     if RECORD_LIMIT < data.len() {
         return false;

@@ -1,11 +1,14 @@
--- Transfers in the numbers that the code has: of a contiguous file its first sector and its size, of a sequential one its records.
+-- Transfers in the numbers that the code has: of a contiguous file its first sector and its size, of a sequential one how many records it
+-- has and the bytes of one.
 use mathlib.Core.List.{List, [], _∷_}
 use mathlib.Core.Bool.{Bool}
 use Prim.Native.Nat.{ℕ, _+_, _-_, _*_, _/_}
 use lib.Dec.{leb, ltb}
 use lib.ListN.{length}
-use Rattle.lists.specs.Lists.{if_then_else_, _or_}
+use Rattle.numbers.specs.Numbers.{recordLimit}
+use Rattle.lists.specs.Lists.{if_then_else_, _and_, _or_}
 use Rattle.lists.specs.Parts.{part, over}
+use Rattle.text.specs.Packing.{isText}
 use Rattle.work.specs.Refusals.{_if_}
 use Rattle.work.specs.declared.Worked.the-variants.{Did}
 use Rattle.work.specs.Code.Deeds.{Deed, deed, doneBy}
@@ -30,6 +33,10 @@ readOne img n i bs buf =
     doneBy
     (PastEnd if leb n i ∷ BadLength if ltb (length buf) (length bs) ∷ [])
     img buf (deed (Did (length bs) i 1) img (over bs buf))
+
+-- bytes that may be sent as a text
+unfoldable pub textFits : List ℕ → Bool
+textFits bs = leb (length bs) recordLimit and isText bs
 
 -- k sectors from number i on start at or past the end of n, or cross it
 unfoldable pub crosses : ℕ → ℕ → ℕ → Bool

@@ -2,19 +2,17 @@ use mathlib.Core.Path.{_≡_, sym, _∙_}
 use mathlib.Core.Bool.{true}
 use Prim.Native.Nat.{_≤_}
 use native.Mathlib.Omega.{arith}
-use lib.Dec.{leb}
 use lib.ListN.{length, take}
 use lib.Seq.{length-take-le}
 use denote.Ref.{now}
 use borrow.Author.Needs.{needs}
-use borrow.Author.Tests.{not-true, not-false, leb-true}
+use borrow.Author.Tests.{not-true, not-false}
 use Rattle.numbers.specs.Numbers.{recordLimit}
-use Rattle.lists.specs.Lists.{_and_}
 use Rattle.lists.proofs.Fronts.{over-front}
-use Rattle.lists.proofs.Tests.{and-left}
-use Rattle.text.specs.Packing.{isText, packed}
+use Rattle.text.specs.Packing.{packed}
 use Rattle.volume.specs.Directory.{entryAt}
-use Rattle.work.proofs.TextRules.{text-sequential, text-variable, packed-allowed}
+use Rattle.work.specs.Code.Runs.{textFits}
+use Rattle.work.proofs.TextRules.{fits-short, text-sequential, text-variable, packed-allowed}
 use Rattle.work.proofs.Writes.{text-wrong, text-fine}
 use Rattle.work.proofs.writing.write_text.Statement.{statement}
 use Rattle.work.proofs.writing.write_text.Tie as tie
@@ -31,13 +29,13 @@ entry c = c .before .before .before .before
 
 fits : (c : tie.Else1)
     → let a = entry c .args in
-    (leb (length (now (a .«data»))) recordLimit and isText (now (a .«data»))) ≡ true
+    textFits (now (a .«data»)) ≡ true
 fits c = sym (c .before .text-fits .ensures) ∙ not-false _ (c .if1 .left)
 
 short : (c : tie.Else1)
     → let a = entry c .args in
     length (now (a .«data»)) ≤ recordLimit
-short c = leb-true _ _ (and-left _ _ (fits c))
+short c = fits-short _ (fits c)
 
 slice-aggregate-pack : tie.Need-slice-aggregate-pack
 slice-aggregate-pack c = search needs

@@ -4,10 +4,9 @@ use Prim.Native.Nat.{ℕ, zero, suc, _<_, _+_, _/_, _%_, _-_, _*_}
 use native.Mathlib.Omega.{arith}
 use lib.ListN.{take, drop, length}
 use lib.Seq.{getD-drop}
 use Rattle.lists.specs.Parts.{blanks, bytes2, filled, part, sector, put, putSector}
 use Rattle.lists.proofs.AreBytes.{Bytes}
 use Rattle.lists.proofs.Blanks.{getD-blanks}
-use Rattle.volume.specs.Directory.{entry, Fields}
 
 pub bytes-nil : Bytes []
 bytes-nil i = omega arith
@@ -53,21 +52,3 @@ bytes-put i b l hb hl = bytes-append (take i l) (b ++ drop (i + length b) l) (by
 pub bytes-putSector : (s : ℕ) (b l : List ℕ) → Bytes b → Bytes l → Bytes (putSector s b l)
 unfolding putSector
 bytes-putSector s b l hb hl = bytes-put (256 * s) b l hb hl
-
--- an entry of a descriptor and numbers that fit
-pub bytes-entry : (f : Fields) → f .kind < 256 → Bytes (f .described) → f .recordLength < 65536 → f .start < 65536 → f .size < 65536 → Bytes (entry f)
-unfolding entry
-bytes-entry f hk hd hl hs hn =
-    let k : ℕ = f .kind in
-    let d : List ℕ = f .described in
-    let l : ℕ = f .recordLength in
-    let s : ℕ = f .start in
-    let n : ℕ = f .size in
-    let end : List ℕ = 0 ∷ 0 ∷ [] in
-    let be : Bytes end = bytes-cons 0 (0 ∷ []) (omega arith) (bytes-cons 0 [] (omega arith) bytes-nil) in
-    let bn : Bytes (bytes2 n ++ end) = bytes-append (bytes2 n) end (bytes-bytes2 n hn) be in
-    let bs : Bytes (bytes2 s ++ (bytes2 n ++ end)) = bytes-append (bytes2 s) (bytes2 n ++ end) (bytes-bytes2 s hs) bn in
-    let bl : Bytes (bytes2 l ++ (bytes2 s ++ (bytes2 n ++ end))) = bytes-append (bytes2 l) (bytes2 s ++ (bytes2 n ++ end)) (bytes-bytes2 l hl) bs in
-    let bz : Bytes (end ++ (bytes2 l ++ (bytes2 s ++ (bytes2 n ++ end)))) = bytes-append end (bytes2 l ++ (bytes2 s ++ (bytes2 n ++ end))) be bl in
-    let bd : Bytes (d ++ (end ++ (bytes2 l ++ (bytes2 s ++ (bytes2 n ++ end))))) = bytes-append d (end ++ (bytes2 l ++ (bytes2 s ++ (bytes2 n ++ end)))) hd bz in
-    bytes-append (1 ∷ k ∷ []) (d ++ (end ++ (bytes2 l ++ (bytes2 s ++ (bytes2 n ++ end))))) (bytes-cons 1 (k ∷ []) (omega arith) (bytes-cons k [] hk bytes-nil)) bd
