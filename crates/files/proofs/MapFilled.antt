@@ -7,24 +7,20 @@ use native.Mathlib.Numerals.{add-one}
 use native.Mathlib.Omega.{arith}
 use native.Mathlib.Nat.{zero-add}
 use lib.ListN.{length, set, drop, take, length-append, take-append-drop}
-use lib.Seq.{set-split, take-suc, take-all}
+use lib.Seq.{take-suc, take-all}
 use borrow.Author.Tests.{leb-true, eqb-true}
 use Rattle.lists.specs.Parts.{put, over}
 use Rattle.lists.specs.Lists.{range, flat}
 use Rattle.lists.proofs.LentParts.{put-next}
 use Rattle.lists.proofs.Tests.{and-left, and-right}
-use Rattle.lists.proofs.Lists.{all-at}
+use Rattle.lists.proofs.Lists.{all-at, flat-append}
+use Rattle.lists.proofs.Puts.{put-one}
 use Rattle.lists.proofs.Ranges.{length-range, range-snoc}
 use Rattle.ownership.specs.Blocks.{segment, segStart, segLength, segments, pairs, sectorsOf, total, segmentSound, blockSound}
 use Rattle.ownership.specs.Code.Shapes.{pairAt}
 use Rattle.ownership.proofs.BlockTests.{pairs-length}
-use Rattle.ownership.proofs.Segments.{flat-append, length-segments}
+use Rattle.ownership.proofs.Segments.{length-segments}
 use Rattle.ownership.proofs.BlockFacts.{block-facts}
-
--- one place stored
-pub put-one : (i v : ℕ) (l : List ℕ) → i < length l → set l i v ≡ put i (v ∷ []) l
-unfolding put
-put-one i v l h = rw (set-split l i v h, add-one i)
 
 -- a run, one sector more
 pub run-filled : (at s i : ℕ) (d m : List ℕ) → at + i < length d → m ≡ put at (range s i) d → length m ≡ length d → set m (at + i) (s + i) ≡ put at (range s (i + 1)) d
@@ -46,7 +42,7 @@ pub first-more : (f : List ℕ) (k : ℕ) → k < segments f → firstOf f (k + 
 unfolding firstOf segment flat
 first-more f k h =
     let l : k < length (pairs f) = omega (arith, pairs-length f) in
-    rw (add-one k, take-suc (pairs f) k [] l, flat-append (take k (pairs f)) (pairAt f k ∷ []))
+    rw (add-one k, take-suc (pairs f) k [] l, flat-append segment (take k (pairs f)) (pairAt f k ∷ []))
     (ap (λ (x : List ℕ). flat segment (take k (pairs f)) ++ x) (append-nil (segment (pairAt f k))))
 
 pub length-more : (f : List ℕ) (k : ℕ) → k < segments f → length (firstOf f (k + 1)) ≡ length (firstOf f k) + segLength (pairAt f k)
@@ -60,7 +56,7 @@ first-short : (f : List ℕ) (k : ℕ) → length (firstOf f k) ≤ length (sect
 unfolding firstOf sectorsOf
 first-short f k =
     let e : flat segment (pairs f) ≡ flat segment (take k (pairs f)) ++ flat segment (drop k (pairs f)) =
-    ap (flat segment) (sym (take-append-drop k (pairs f))) ∙ flat-append (take k (pairs f)) (drop k (pairs f)) in
+    ap (flat segment) (sym (take-append-drop k (pairs f))) ∙ flat-append segment (take k (pairs f)) (drop k (pairs f)) in
     omega (arith, simp length-append at (ap length e))
 
 -- what a sound block says of its segments, and of how many sectors they are

@@ -11,6 +11,7 @@ pub mod KeptCount
 pub mod LentParts
 pub mod Lists
 pub mod Pieces
+pub mod PutBytes
 pub mod Puts
 pub mod RangeParts
 pub mod Ranges

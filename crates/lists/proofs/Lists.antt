@@ -117,3 +117,9 @@ module _ {A : Type 0} (r : A → Bool) where
   unfolding all
   all-append [] t p q = q
   all-append (y ∷ s) t p q = both-true (r y) (all r (s ++ t)) (and-left _ _ p) (all-append s t (and-right _ _ p) q)
+
+-- the lists of a joined list
+pub flat-append : {A B : Type 0} (f : A → List B) (xs ys : List A) → flat f (xs ++ ys) ≡ flat f xs ++ flat f ys
+unfolding flat
+flat-append f [] ys = refl
+flat-append f (x ∷ xs) ys = rw (flat-append f xs ys) (sym (append-assoc (f x) (flat f xs) (flat f ys)))

@@ -1,12 +1,14 @@
 -- Laws of `part`, `put`, `sector` and `putSector`.
 use mathlib.Core.Path.{_≡_, refl, ap, _∙_, sym}
-use mathlib.Core.List.{List, _++_}
+use mathlib.Core.List.{List, [], _∷_, _++_}
 use mathlib.Core.Logic.{_≢_}
 use Prim.Native.Nat.{ℕ, _+_, _≤_, _-_, _*_, _<_}
 use native.Mathlib.Omega.{arith}
+use native.Mathlib.Nat.{add-zero}
+use native.Mathlib.Numerals.{add-one}
 use native.Mathlib.Decide.{decLt}
-use lib.ListN.{length, drop, length-drop, take, length-append, length-take, take-append-drop, length-replicate}
-use lib.Seq.{take-append-le, drop-append-le, drop-append-add, drop-drop, take-at, drop-at}
+use lib.ListN.{length, set, drop, length-drop, take, length-append, length-take, take-append-drop, length-replicate}
+use lib.Seq.{set-split, take-append-le, drop-append-le, drop-append-add, drop-drop, take-at, drop-at}
 use borrow.Rule.Slice.PartMut.{putMid, post-is}
 use Rattle.lists.specs.Parts.{part, put, sector, putSector, blanks}
 
@@ -42,6 +44,24 @@ module _ (i : ℕ) (b l : List ℕ) (fits : i + length b ≤ length l) where
   part-put-same =
       let hi : length (take i l) ≡ i = simp length-take (omega arith) in
       rw (drop-at (take i l) (b ++ drop (i + length b) l) i hi, take-at b (drop (i + length b) l) (length b) refl)
+
+-- nothing written, one byte written, and a part put back where it was
+pub put-none : (i : ℕ) (l : List ℕ) → put i [] l ≡ l
+unfolding put
+put-none i l = rw add-zero (take-append-drop i l)
+
+pub put-one : (i v : ℕ) (l : List ℕ) → i < length l → set l i v ≡ put i (v ∷ []) l
+unfolding put
+put-one i v l h = rw (set-split l i v h, add-one i)
+
+pub put-part : (i n : ℕ) (l : List ℕ) → i + n ≤ length l → put i (part i n l) l ≡ l
+unfolding put part
+put-part i n l h =
+    let e : length (take n (drop i l)) ≡ n = simp (length-take, length-drop) (omega arith) in
+    ap (λ (k : ℕ). take i l ++ (take n (drop i l) ++ drop (i + k) l)) e
+    ∙ ap (λ (x : List ℕ). take i l ++ (take n (drop i l) ++ x)) (sym (drop-drop n i l))
+    ∙ ap (λ (x : List ℕ). take i l ++ x) (take-append-drop n (drop i l))
+    ∙ take-append-drop i l
 
 -- a sector written is read back, and leaves the others
 module _ (s : ℕ) (b l : List ℕ) (one : length b ≡ 256) (fits : 256 * s + 256 ≤ length l) where

@@ -16,6 +16,13 @@ word b i = 256 * byte b i + byte b (i + 1)
 abbrev pub bytes2 : ℕ → List ℕ
 bytes2 w = w / 256 ∷ w % 256 ∷ []
 
+-- RULES, Words and numbers: a long number is four bytes, the highest first; the four bytes of one
+abbrev pub long : List ℕ → ℕ → ℕ
+long b i = 65536 * word b i + word b (i + 2)
+
+abbrev pub bytes4 : ℕ → List ℕ
+bytes4 v = bytes2 (v / 65536) ++ bytes2 (v % 65536)
+
 -- n bytes from i on; the same list with b written at i; its first bytes replaced by b
 unfoldable pub part : ℕ → ℕ → List ℕ → List ℕ
 part i n b = take n (drop i b)

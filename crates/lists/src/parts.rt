@@ -1,9 +1,8 @@
 // Bytes, words and parts of a lent image.
 ghost use mathlib.Core.Path.{_≡_};
-ghost use Prim.Native.Nat.{_<_, _+_, _*_, _≤_, _/_, _%_};
+ghost use Prim.Native.Nat.{_<_, _+_, _*_, _≤_};
 ghost use lib.ListN.{length, replicate};
-ghost use Rattle.lists.specs.Parts.{word, bytes2, put, blanks, zeros, over, sector, part};
-ghost use mathlib.Core.List.{_++_};
+ghost use Rattle.lists.specs.Parts.{word, long, bytes2, bytes4, put, blanks, zeros, over, sector, part};
 ghost use Rattle.lists.specs.Lists.{same};
 
 // A byte as a number, with its bound for the arithmetic that follows.
@@ -24,7 +23,7 @@ pub fn word_at(s: &[u8], i: usize) -> usize
 // The number of four bytes at i.
 pub fn long_at(s: &[u8], i: usize) -> usize
     requires { ⌜ i + 4 ≤ length (now s) ⌝ }
-    ensures { λ r. ⌜ (r ≡ 65536 * word (now (s .entry)) i + word (now (s .entry)) (i + 2)) × (r < 4294967296) ⌝ }
+    ensures { λ r. ⌜ (r ≡ long (now (s .entry)) i) × (r < 4294967296) ⌝ }
 {
     65536 * word_at(s, i) + word_at(s, i + 2)
 }
@@ -39,7 +38,7 @@ pub fn put_word(s: &mut [u8], i: usize, v: usize)
 
 pub fn put_long(s: &mut [u8], i: usize, v: usize)
     requires { ⌜ (i + 4 ≤ length (now s)) × (v < 4294967296) ⌝ }
-    ensures { λ _. ⌜ now (s .exit) ≡ put i (bytes2 (v / 65536) ++ bytes2 (v % 65536)) (now (s .entry)) ⌝ }
+    ensures { λ _. ⌜ now (s .exit) ≡ put i (bytes4 v) (now (s .entry)) ⌝ }
 {
     put_word(s, i, v / 65536);
     put_word(s, i + 2, v % 65536);

@@ -12,6 +12,17 @@ modeOf k =
     if eqb k 0 then Pr else if eqb k 1 then Er else if eqb k 2 then Pw else if eqb k 3 then Ew
     else if eqb k 4 then Prpw else if eqb k 5 then Prew else if eqb k 6 then Erpw else Erew
 
+-- the number of each
+abbrev pub modeNumber : Mode → ℕ
+modeNumber Pr = 0
+modeNumber Er = 1
+modeNumber Pw = 2
+modeNumber Ew = 3
+modeNumber Prpw = 4
+modeNumber Prew = 5
+modeNumber Erpw = 6
+modeNumber Erew = 7
+
 -- RULES, Modes: what each reads and writes, and what it excludes
 abbrev pub reads : Mode → Bool
 reads Pr = true

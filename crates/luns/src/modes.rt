@@ -1,6 +1,6 @@
 // Modes: what each reads, writes and excludes, and which two stand beside each other.
 ghost use mathlib.Core.Path.{_≡_};
-ghost use Rattle.luns.specs.Modes.{modeOf, reads, writes, excludesReading, excludesWriting, shutsOut, compatible};
+ghost use Rattle.luns.specs.Modes.{modeOf, modeNumber, reads, writes, excludesReading, excludesWriting, shutsOut, compatible};
 use crate::Mode;
 
 impl Mode {
@@ -17,6 +17,22 @@ impl Mode {
             5 => Mode::Prew,
             6 => Mode::Erpw,
             _ => Mode::Erew,
+        }
+    }
+
+    /// The mode's house number.
+    pub fn number(self) -> u8
+        ensures { λ r. ⌜ r ≡ modeNumber self ⌝ }
+    {
+        match self {
+            Mode::Pr => 0,
+            Mode::Er => 1,
+            Mode::Pw => 2,
+            Mode::Ew => 3,
+            Mode::Prpw => 4,
+            Mode::Prew => 5,
+            Mode::Erpw => 6,
+            Mode::Erew => 7,
         }
     }
 

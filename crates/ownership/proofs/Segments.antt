@@ -10,7 +10,7 @@ use lib.Dec.{ltb}
 use borrow.Author.Tests.{eqb-true, le-leb, ltb-true, leb-true}
 use Rattle.lists.specs.Lists.{range, flat, all, _and_, sum}
 use Rattle.lists.proofs.Tests.{and-left, and-right, both-true}
-use Rattle.lists.proofs.Lists.{all-at}
+use Rattle.lists.proofs.Lists.{flat-append, all-at}
 use Rattle.lists.proofs.Ranges.{range-snoc, length-range}
 use Rattle.ownership.specs.Blocks.{segStart, segLength, segment, extended, extendedBy, segmentSound}
 use Rattle.ownership.specs.Code.Shapes.{pair, follows, lengthened, fours, lastPair}
@@ -51,11 +51,6 @@ module _ (P : List (List ℕ) → Type 0) (ps : List (List ℕ)) (s : ℕ) where
       go false e = rw (extended-new ps s e) (g e)
 
 -- the sectors of the segments
-pub flat-append : (ps qs : List (List ℕ)) → flat segment (ps ++ qs) ≡ flat segment ps ++ flat segment qs
-unfolding flat
-flat-append [] qs = refl
-flat-append (p ∷ ps) qs = rw (flat-append ps qs) (sym (append-assoc (segment p) (flat segment ps) (flat segment qs)))
-
 flat-one : (s : ℕ) → flat segment (pair s 1 ∷ []) ≡ s ∷ []
 unfolding flat
 flat-one s = append-nil (segment (pair s 1)) ∙ segment-one s
@@ -72,7 +67,7 @@ flat-lengthened (p ∷ q ∷ ps) s h =
 pub flat-extended : (ps : List (List ℕ)) (s : ℕ) → flat segment (extended ps s) ≡ flat segment ps ++ (s ∷ [])
 flat-extended ps s =
     extended-cases (λ qs. flat segment qs ≡ flat segment ps ++ (s ∷ [])) ps s (flat-lengthened ps s)
-    (λ h. flat-append ps (pair s 1 ∷ []) ∙ ap (λ (l : List ℕ). flat segment ps ++ l) (flat-one s))
+    (λ h. flat-append segment ps (pair s 1 ∷ []) ∙ ap (λ (l : List ℕ). flat segment ps ++ l) (flat-one s))
 
 pub flat-extendedBy : (ps : List (List ℕ)) (ss : List ℕ) → flat segment (extendedBy ps ss) ≡ flat segment ps ++ ss
 unfolding extendedBy

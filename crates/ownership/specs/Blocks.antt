@@ -1,11 +1,11 @@
 -- Access blocks, and point 3 of soundness but for the stream's tail. Defines RULES, Access blocks; Soundness (point 3).
 use mathlib.Core.List.{List, [], _∷_, _++_, map}
 use mathlib.Core.Bool.{Bool, true}
-use Prim.Native.Nat.{ℕ, _+_, _*_, _/_, _%_}
+use Prim.Native.Nat.{ℕ, _+_, _*_}
 use lib.ListN.{drop, length}
 use lib.Dec.{eqb, leb, ltb}
 use Rattle.numbers.specs.Numbers.{mostSegments}
-use Rattle.lists.specs.Parts.{sector, word, bytes2, filled, inSectors, zeros, sectors}
+use Rattle.lists.specs.Parts.{sector, word, long, bytes2, bytes4, filled, inSectors, zeros, sectors}
 use Rattle.lists.specs.Lists.{pieces, range, flat, if_then_else_, _and_, all, sum}
 use Rattle.volume.specs.Directory.{start, unused, contiguous, size, entries}
 
@@ -20,7 +20,7 @@ abbrev pub total : List ℕ → ℕ
 total f = word f 2
 
 abbrev pub streamLength : List ℕ → ℕ
-streamLength f = 65536 * word f 4 + word f 6
+streamLength f = long f 4
 
 unfoldable pub pairs : List ℕ → List (List ℕ)
 pairs f = pieces (segments f) 4 (drop 8 f)
@@ -55,7 +55,7 @@ extendedBy ps (s ∷ ss) = extendedBy (extended ps s) ss
 unfoldable pub blockOf : List (List ℕ) → ℕ → ℕ → List ℕ
 blockOf ps n e =
     filled 256
-    (bytes2 (length ps) ++ (bytes2 n ++ (bytes2 (e / 65536) ++ (bytes2 (e % 65536) ++ flat (λ p. p) ps))))
+    (bytes2 (length ps) ++ (bytes2 n ++ (bytes4 e ++ flat (λ p. p) ps)))
 
 -- RULES, Soundness: point 3, a segment of 1 or more sectors that ends at or before T
 unfoldable pub segmentSound : ℕ → List ℕ → Bool

@@ -38,7 +38,7 @@ code-in-table NameTaken = refl
 code-in-table DirectoryFull = refl
 code-in-table NotSound = refl
 
-answer-in-table : (a : Answer) → among (status a) statusTable ≡ true
+pub answer-in-table : (a : Answer) → among (status a) statusTable ≡ true
 unfolding statusTable among _or_
 answer-in-table (Done r) = refl
 answer-in-table (Refused why) = code-in-table why

@@ -5,6 +5,7 @@ use Rattle.records.proofs.RecordStreams.{streamOf-injective}
 use Rattle.promises.specs.Steps.{small-volume}
 use Rattle.promises.specs.Table.{table-differs}
 use Rattle.promises.specs.Texts.{samples-packed}
+use Rattle.promises.specs.FrontSteps.{front-steps}
 use Rattle.promises.specs.Demands.{Demands}
 use Rattle.promises.proofs.Answers.{in-table, refusal-keeps, refused-exactly, unready-refused, one-outcome}
 use Rattle.promises.proofs.Sectors.{in-order}
@@ -17,10 +18,16 @@ use Rattle.promises.proofs.Reading.{accepted-read}
 use Rattle.promises.proofs.Writing.{accepted-write}
 use Rattle.promises.proofs.Updating.{accepted-update}
 use Rattle.promises.proofs.Preserved.{stays-good, stays-sound, runs-are-visits, other-files-kept, others-kept, frame-kept}
-use Rattle.promises.proofs.Lasting.{lasts-through, append-ends-none}
-use Rattle.promises.proofs.ReadBack.{written-is-read, written-sector-is-read, updated-is-read}
-use Rattle.promises.proofs.TextsKept.{written-text-is-read, updated-text-is-read, longest-text, run-by-run, option-ignored}
-use Rattle.promises.proofs.NeverPastEnd.{never-past-end}
+use Rattle.promises.proofs.Lasts.Lasting.{lasts-through, append-ends-none}
+use Rattle.promises.proofs.Lasts.ReadBack.{written-is-read, written-sector-is-read, updated-is-read}
+use Rattle.promises.proofs.Lasts.TextsKept.{written-text-is-read, updated-text-is-read, longest-text, run-by-run, option-ignored}
+use Rattle.promises.proofs.Lasts.NeverPastEnd.{never-past-end}
+use Rattle.promises.proofs.Fronts.PackedDesks.{desk-reads-back, no-two-desks-alike, one-plain-desk}
+use Rattle.promises.proofs.Fronts.PlainDesks.{calls-make-plain}
+use Rattle.promises.proofs.Fronts.FrontAnswers.{front-in-table, request-refusal-keeps, front-refusal-keeps, short-block, front-refused-exactly, one-ending}
+use Rattle.promises.proofs.Fronts.FrontCarried.{block-marked, only-the-part, accepted-through}
+use Rattle.promises.proofs.Fronts.FrontReadBack.{written-through, written-sector-through, updated-through}
+use Rattle.promises.proofs.Fronts.FrontRuns.{requests-are-visits, requests-are-runs, front-stays-good}
 use Rattle.promises.proofs.Conclusions.{not-all-refused, not-all-done, not-unchanged, not-only-E, check-counts}
 
 pub demands : Demands
@@ -63,6 +70,26 @@ demands = record {
   run-by-run = run-by-run;
   samples-packed = samples-packed;
   option-ignored = option-ignored;
+  desk-reads-back = desk-reads-back;
+  no-two-desks-alike = no-two-desks-alike;
+  one-plain-desk = one-plain-desk;
+  calls-make-plain = calls-make-plain;
+  front-in-table = front-in-table;
+  request-refusal-keeps = request-refusal-keeps;
+  front-refusal-keeps = front-refusal-keeps;
+  short-block = short-block;
+  block-marked = block-marked;
+  only-the-part = only-the-part;
+  front-refused-exactly = front-refused-exactly;
+  accepted-through = accepted-through;
+  written-through = written-through;
+  written-sector-through = written-sector-through;
+  updated-through = updated-through;
+  requests-are-visits = requests-are-visits;
+  requests-are-runs = requests-are-runs;
+  front-stays-good = front-stays-good;
+  one-ending = one-ending;
+  front-steps = front-steps;
   one-outcome = one-outcome;
   not-all-refused = not-all-refused;
   not-all-done = not-all-done;

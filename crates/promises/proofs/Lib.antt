@@ -17,14 +17,12 @@ pub mod Updating
 pub mod Writing
 pub mod Sectors
 pub mod Preserved
-pub mod Lasting
-pub mod ReadBack
-pub mod TextsKept
-pub mod NeverPastEnd
 pub mod Conclusions
 pub mod Formatted
 pub mod Allocated
 pub mod Deleted
 pub mod Seated
 pub mod Counts
+pub mod Lasts
+pub mod Fronts
 pub mod Demands

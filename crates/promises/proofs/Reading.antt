@@ -105,7 +105,9 @@ module _ (caller lun sel num : ℕ) (fmt : Bool) (buf : List ℕ) (s : State) (T
       ap length (data-run v e i fmt (length buf) q) ∙ length-sectorsAt v e i r (omega (arith, run-readable q .inside, H .facts-of .long))
 
   -- the place after it
-  place-after : placeExists v e (At i (units e (length (dataAt v e i fmt (length buf))))) ≡ true
+  pub place-after : placeExists (s .image) (entryOf s lun)
+      (At (aimed s lun sel num) (units (entryOf s lun) (length (dataAt (s .image) (entryOf s lun) (aimed s lun sel num) fmt (length buf)))))
+      ≡ true
   unfolding fileOf
   place-after = go (contiguous e) refl
     where

@@ -98,7 +98,7 @@ right-of false h e = refl
 
 -- the new LUN fits, and agrees with all
 module _ (caller lun : ℕ) (desc : List ℕ) (mode : ℕ) (end : Bool) (s : State) (T : AssignTold s caller lun desc mode end) where
-  new-fitted : Fitted (s .image) (newLun (s .image) caller desc mode end)
+  pub new-fitted : Fitted (s .image) (newLun (s .image) caller desc mode end)
   unfolding newLun seatOf spare
   new-fitted =
       let e : List ℕ = entryAt (s .image) (slotOf (s .image) desc) in

@@ -11,6 +11,13 @@ use Rattle.promises.specs.Lasting.{AppendEndsNone, Lasts, WrittenIsRead,
 use Rattle.promises.specs.Lasting.{WrittenSectorIsRead, NeverPastEnd}
 use Rattle.promises.specs.Texts.{PackedReadsBack, NoTwoStoredAlike, NeverLonger, NoEmptyByte, LongestText, RunByRun, SamplesPacked}
 use Rattle.promises.specs.Texts.{OptionIgnored}
+use Rattle.promises.specs.DeskBytes.{DeskReadsBack, NoTwoDesksAlike, OnePlainDesk, CallsMakePlain}
+use Rattle.promises.specs.Fronts.{FrontInTable, RequestRefusalKeeps, FrontRefusalKeeps, ShortBlock, BlockMarked, OnlyThePart}
+use Rattle.promises.specs.Fronts.{FrontRefusedExactly}
+use Rattle.promises.specs.Fronts.{AcceptedThrough, WrittenThrough, WrittenSectorThrough, UpdatedThrough, RequestsAreVisits}
+use Rattle.promises.specs.Fronts.{RequestsAreRuns, FrontStaysGood}
+use Rattle.promises.specs.Fronts.{OneEnding}
+use Rattle.promises.specs.FrontSteps.{FrontSteps}
 use Rattle.promises.specs.Conclusions.{NotAllRefused, NotAllDone, NotUnchanged, NotOnlyE, CheckCounts}
 use Rattle.promises.specs.Steps.{SmallVolume}
 use Rattle.promises.specs.Table.{TableDiffers}
@@ -70,6 +77,32 @@ pub record Demands : Type 0 where
   pub run-by-run : RunByRun
   pub samples-packed : SamplesPacked
   pub option-ignored : OptionIgnored
+  -- A front for the C booking gateway: "`packedDesk` and its reading back are one to one on the desks that the calls make; any 192 bytes
+  -- are either bad or the packed form of exactly one plain desk, and every desk that the calls make from the empty one is plain"
+  pub desk-reads-back : DeskReadsBack
+  pub no-two-desks-alike : NoTwoDesksAlike
+  pub one-plain-desk : OnePlainDesk
+  pub calls-make-plain : CallsMakePlain
+  -- "The demands hold of calls made through the front": demand 1,
+  pub front-in-table : FrontInTable
+  pub request-refusal-keeps : RequestRefusalKeeps
+  pub front-refusal-keeps : FrontRefusalKeeps
+  pub short-block : ShortBlock
+  pub block-marked : BlockMarked
+  pub only-the-part : OnlyThePart
+  -- demand 2, and "what was written through it is read through it";
+  pub front-refused-exactly : FrontRefusedExactly
+  pub accepted-through : AcceptedThrough
+  pub written-through : WrittenThrough
+  pub written-sector-through : WrittenSectorThrough
+  pub updated-through : UpdatedThrough
+  pub requests-are-visits : RequestsAreVisits
+  -- demand 3
+  pub requests-are-runs : RequestsAreRuns
+  pub front-stays-good : FrontStaysGood
+  pub one-ending : OneEnding
+  -- the front tried on the small volume, one computed list
+  pub front-steps : FrontSteps
   -- Each public call's statement settles answer, image, desk and buffer in all cases: at most one outcome satisfies it
   pub one-outcome : OneOutcome
   -- A program that refuses everything is shut out, and so is one that answers $00 to everything,

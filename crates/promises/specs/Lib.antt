@@ -8,7 +8,10 @@ pub mod Contents
 pub mod Lasting
 pub mod Texts
 pub mod Filing
+pub mod Fronts
+pub mod FrontSteps
 pub mod Seating
 pub mod Counts
 pub mod Conclusions
+pub mod DeskBytes
 pub mod Demands

@@ -14,12 +14,12 @@ use borrow.Author.Tests.{eq-eqb, eqb-false, not-true, ne-eqb}
 use Rattle.lists.specs.Parts.{put, byte, sector, putSector}
 use Rattle.lists.specs.Lists.{among, flat, distinct}
 use Rattle.lists.proofs.Tests.{or-first, or-second, or-left, or-right, and-left, and-right, not-both}
-use Rattle.lists.proofs.Puts.{length-put, sector-same, sector-other}
+use Rattle.lists.proofs.Puts.{put-none, length-put, sector-same, sector-other}
 use Rattle.lists.proofs.LentParts.{length-sector, put-next}
 use Rattle.lists.proofs.Keeps.{Keeps}
 use Rattle.records.specs.Streams.{laidOut, laid}
 use Rattle.records.specs.Code.Mapped.{Mapped}
-use Rattle.records.proofs.StreamBytes.{byte-sector, put-none, length-laidOut}
+use Rattle.records.proofs.StreamBytes.{byte-sector, length-laidOut}
 use Rattle.records.proofs.LaidStream.{filled-all}
 
 -- a write in the first of two lists, or in the second

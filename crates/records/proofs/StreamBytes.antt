@@ -2,23 +2,18 @@
 use mathlib.Core.Path.{_≡_, _∙_, refl}
 use mathlib.Core.List.{List, [], _∷_}
 use Prim.Native.Nat.{ℕ, _+_, _*_, _/_, _%_, _<_, suc, _≤_}
-use native.Mathlib.Nat.{add-zero}
 use native.Mathlib.Omega.{arith}
-use lib.ListN.{take-append-drop, getD, drop, length, length-append}
+use lib.ListN.{getD, drop, length, length-append}
 use lib.Seq.{getD-take, getD-drop}
 use mir.Val.{Fits}
 use mir.Syntax.{w8}
-use Rattle.lists.specs.Parts.{put, byte, part, sector}
+use Rattle.lists.specs.Parts.{byte, part, sector}
 use Rattle.lists.specs.Lists.{flat}
 use Rattle.lists.proofs.LentParts.{length-sector}
 use Rattle.lists.proofs.Pieces.{flat-at}
 use Rattle.lists.proofs.AreBytes.{Bytes}
 use Rattle.records.specs.Streams.{laidOut}
 use Rattle.records.specs.Code.Mapped.{Mapped}
-
-pub put-none : (i : ℕ) (l : List ℕ) → put i [] l ≡ l
-unfolding put
-put-none i l = rw add-zero (take-append-drop i l)
 
 -- the place in the image of the stream's byte p
 abbrev pub addressOf : List ℕ → ℕ → ℕ

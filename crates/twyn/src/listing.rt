@@ -1,24 +1,10 @@
 // The desk as it is printed.
 use crate::print::Text;
 use desk::Desk;
+use deskbytes::DESK_BYTES;
 use luns::Lun;
-use luns::Mode;
 use luns::Place;
 use numbers::LUNS;
-
-// The mode's house number.
-fn mode_number(m: Mode) -> u64 {
-    match m {
-        Mode::Pr => 0,
-        Mode::Er => 1,
-        Mode::Pw => 2,
-        Mode::Ew => 3,
-        Mode::Prpw => 4,
-        Mode::Prew => 5,
-        Mode::Erpw => 6,
-        Mode::Erew => 7,
-    }
-}
 
 fn place(t: Text, p: Place) -> Text {
     match p {
@@ -36,7 +22,7 @@ fn unit(t: Text, u: Lun) -> Text {
     place(
         t.number(u.user as u64)
             .number(u.slot as u64)
-            .number(mode_number(m)),
+            .number(m.number() as u64),
         p,
     )
 }
@@ -52,4 +38,12 @@ pub(crate) fn desk(d: Desk) -> Text {
         i += 1;
     }
     t
+}
+
+/// The desk in its packed form.
+pub(crate) fn packed(d: Desk) -> [u8; DESK_BYTES] {
+    let luns = d.luns;
+    let mut bytes = [0u8; DESK_BYTES];
+    deskbytes::pack(luns, &mut bytes);
+    bytes
 }

@@ -1,11 +1,12 @@
-// twyn [IMAGE]: runs a script of calls from standard input on a volume, and prints one line for each. The work is the crate
-// desk's; this program parses and prints.
+// twyn [IMAGE]: runs a script of calls from standard input on a volume, and prints one line for each. The work is that of the crates
+// desk and front; this program parses and prints.
 mod answers;
 mod calls;
 mod image;
 mod input;
 mod listing;
 mod print;
+mod requests;
 mod script;
 mod session;
 mod store;

@@ -110,6 +110,14 @@ impl Text {
         t
     }
 
+    /// With the bytes of an area in hexadecimal, `-` if there is none.
+    pub(crate) fn area(self, s: &[u8]) -> Text {
+        if s.len() == 0 {
+            return self.word(b"-");
+        }
+        self.hex(s)
+    }
+
     // Writes the first `n` bytes. False: they could not be written.
     fn write(self, n: usize) -> bool {
         let bytes = self.bytes;

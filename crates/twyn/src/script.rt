@@ -1,4 +1,4 @@
-// A line of a script, parsed: which command, its numbers and its bytes.
+// A line of a script, parsed: which command, its numbers, its bytes and its areas.
 ghost use Prim.Native.Nat.{_≤_};
 use crate::words;
 use lists::parts::same_bytes;
@@ -22,30 +22,43 @@ pub(crate) const UPDATE: usize = 7;
 
 pub(crate) const UPDATE_TEXT: usize = 8;
 
-pub(crate) const CHECK: usize = 9;
+pub(crate) const IOCB: usize = 9;
 
-pub(crate) const ASSIGN: usize = 10;
+pub(crate) const IOCB_WITH: usize = 10;
 
-pub(crate) const CLOSE: usize = 11;
+pub(crate) const CHECK: usize = 11;
 
-pub(crate) const REWIND: usize = 12;
+pub(crate) const ASSIGN: usize = 12;
 
-pub(crate) const READ: usize = 13;
+pub(crate) const CLOSE: usize = 13;
 
-pub(crate) const READ_TEXT: usize = 14;
+pub(crate) const REWIND: usize = 14;
 
-pub(crate) const SECTOR: usize = 15;
+pub(crate) const READ: usize = 15;
 
-pub(crate) const DESK: usize = 16;
+pub(crate) const READ_TEXT: usize = 16;
 
-pub(crate) const SUM: usize = 17;
+pub(crate) const SECTOR: usize = 17;
 
-pub(crate) const UNREADABLE: usize = 18;
+pub(crate) const DESK: usize = 18;
 
-pub(crate) const NOTHING: usize = 19;
+pub(crate) const DESK_BYTES: usize = 19;
 
-/// A parsed line: its numbers by their places among the words, 0 where none stands, whether its transfer is of a text, and its
-/// bytes, the first `count` of `data`.
+pub(crate) const SUM: usize = 20;
+
+pub(crate) const UNREADABLE: usize = 21;
+
+pub(crate) const NOTHING: usize = 22;
+
+/// What a request lends beside the image: its block, the task's own area and the shared segment.
+pub(crate) struct Lent {
+    pub(crate) block: words::Bytes,
+    pub(crate) task: words::Bytes,
+    pub(crate) shared: words::Bytes,
+}
+
+/// A parsed line: its numbers by their places among the words, 0 where none stands, whether its transfer is of a text, its bytes,
+/// the first `count` of `data`, and what its request lends.
 pub(crate) struct Call {
     pub(crate) command: usize,
     pub(crate) one: u32,
@@ -56,14 +69,13 @@ pub(crate) struct Call {
     pub(crate) formatted: bool,
     pub(crate) count: usize,
     pub(crate) data: [u8; 8192],
+    pub(crate) lent: Lent,
 }
 
 // Which command the word names.
-fn named(word: &[u8]) -> usize
-    ensures { λ r. ⌜ r ≤ 18 ⌝ }
-{
+fn named(word: &[u8]) -> usize {
     let names =
-        b"new poke format allocate delete write write-text update update-text check assign close rewind read read-text sector desk sum";
+        b"new poke format allocate delete write write-text update update-text iocb iocb-with check assign close rewind read read-text sector desk desk-bytes sum";
     let mut k = 0;
     while k < UNREADABLE {
         if same_bytes(word, words::word(names, k)) {
@@ -75,19 +87,37 @@ fn named(word: &[u8]) -> usize
 }
 
 // How many words a command has, with its name.
-fn words_of(command: usize) -> usize
-    requires { ⌜ command ≤ 18 ⌝ }
-{
-    let words = [2, 3, 3, 6, 3, 6, 6, 6, 6, 1, 6, 3, 3, 6, 6, 2, 1, 1, 0];
-    words[command]
+fn words_of(command: usize) -> usize {
+    match command {
+        UNREADABLE => 0,
+        CHECK | DESK | DESK_BYTES | SUM => 1,
+        NEW | SECTOR => 2,
+        POKE | FORMAT | DELETE | CLOSE | REWIND => 3,
+        IOCB => 5,
+        _ => 6,
+    }
 }
 
-// Which word of a command is bytes, 0 if none is. The others are numbers.
-fn bytes_at(command: usize) -> usize
-    requires { ⌜ command ≤ 18 ⌝ }
+// Which word of a command is bytes, 0 if none is. The others are numbers, but for a request's block and areas.
+fn bytes_at(command: usize) -> usize {
+    match command {
+        FORMAT | IOCB_WITH => 1,
+        POKE | ALLOCATE | DELETE => 2,
+        ASSIGN => 3,
+        WRITE | WRITE_TEXT | UPDATE | UPDATE_TEXT => 5,
+        _ => 0,
+    }
+}
+
+// Which word of a command is a request block, 0 if none is. The two after it, the command's last, are the areas.
+fn block_at(command: usize) -> usize
+    ensures { λ r. ⌜ r ≤ 3 ⌝ }
 {
-    let places = [0, 2, 1, 2, 2, 5, 5, 5, 5, 0, 3, 0, 0, 0, 0, 0, 0, 0, 0];
-    places[command]
+    match command {
+        IOCB => 2,
+        IOCB_WITH => 3,
+        _ => 0,
+    }
 }
 
 // Whether the command transfers a text, as the command of the same name without `-text` transfers bytes.
@@ -96,8 +126,8 @@ fn is_formatted(command: usize) -> bool {
 }
 
 // The number at word `k`, or 0 where the command has none there.
-fn number(line: &[u8], words: usize, bytes: usize, k: usize) -> words::Number {
-    if (words <= k) | (bytes == k) {
+fn number(line: &[u8], words: usize, bytes: usize, block: usize, k: usize) -> words::Number {
+    if (words <= k) | (bytes == k) | ((block != 0) & (block <= k)) {
         return words::Number { ok: true, value: 0 };
     }
     words::number_of(words::word(line, k))
@@ -109,6 +139,24 @@ fn bytes(line: &[u8], at: usize) -> words::Bytes {
         return words::no_bytes(true);
     }
     words::bytes_of(words::word(line, at))
+}
+
+// The block and the areas, from word `at` on; no bytes of any of them if that is the command's name.
+fn lent_at(line: &[u8], at: usize) -> Lent
+    requires { ⌜ at ≤ 3 ⌝ }
+{
+    if at == 0 {
+        return Lent {
+            block: words::no_bytes(true),
+            task: words::no_bytes(true),
+            shared: words::no_bytes(true),
+        };
+    }
+    Lent {
+        block: bytes(line, at),
+        task: bytes(line, at + 1),
+        shared: bytes(line, at + 2),
+    }
 }
 
 // The command that a line has: `NOTHING` if it has no word, and `UNREADABLE` if its words are not the command's, or it is too long.
@@ -124,15 +172,18 @@ pub(crate) fn parsed(line: &[u8], over: bool) -> Call {
     let command = named(words::word(line, 0));
     let words = words_of(command);
     let at = bytes_at(command);
-    let one = number(line, words, at, 1);
-    let two = number(line, words, at, 2);
-    let three = number(line, words, at, 3);
-    let four = number(line, words, at, 4);
-    let five = number(line, words, at, 5);
+    let block = block_at(command);
+    let one = number(line, words, at, block, 1);
+    let two = number(line, words, at, block, 2);
+    let three = number(line, words, at, block, 3);
+    let four = number(line, words, at, block, 4);
+    let five = number(line, words, at, block, 5);
     let brought = bytes(line, at);
+    let areas = lent_at(line, block);
     let more = words::word(line, words).len() != 0;
     let flag = (command != ASSIGN) | (five.value <= 1);
-    let ok = one.ok & two.ok & three.ok & four.ok & five.ok & brought.ok & !more & flag;
+    let whole = areas.block.ok & areas.task.ok & areas.shared.ok;
+    let ok = one.ok & two.ok & three.ok & four.ok & five.ok & brought.ok & whole & !more & flag;
     let data = brought.bytes;
     Call {
         command: judged(command, ok, line.len() == 0, over),
@@ -144,5 +195,6 @@ pub(crate) fn parsed(line: &[u8], over: bool) -> Call {
         formatted: is_formatted(command),
         count: brought.count,
         data: data,
+        lent: areas,
     }
 }

@@ -5,6 +5,8 @@ use crate::image;
 use crate::listing;
 use crate::print;
 use crate::print::Text;
+use crate::requests;
+use crate::requests::Outcome;
 use crate::script;
 use crate::script::Call;
 use crate::store;
@@ -98,6 +100,37 @@ fn serve(image: &mut [u8], s: Session, call: Call, data: &[u8]) -> Session {
     t
 }
 
+// With a request's line to print. One that was carried out counts as a change of the image, whatever it asked for.
+fn requested(s: Session, o: Outcome) -> Session {
+    let line = o.line;
+    let mut t = said(s, line);
+    t.changed = s.changed | o.done;
+    t
+}
+
+// `iocb`: the desk is lent in its packed form, and what that is after the request is the script's desk.
+fn request(image: &mut [u8], s: Session, call: Call) -> Session {
+    let d = s.desk;
+    let lent = call.lent;
+    let mut bytes = listing::packed(d);
+    let o = requests::run(image, &mut bytes, false, call.one, lent);
+    let after = front::desks::open(&bytes);
+    let mut t = requested(s, o);
+    t.desk = after;
+    t
+}
+
+// `iocb-with`: the line brings the desk bytes, and the script's desk is left.
+fn request_with(image: &mut [u8], s: Session, call: Call) -> Session {
+    let lent = call.lent;
+    let mut bytes = call.data;
+    let n = print::within(call.count, &bytes);
+    requested(
+        s,
+        requests::run(image, &mut bytes[..n], true, call.two, lent),
+    )
+}
+
 // The longest buffer that a script may read into. It holds the longest text that can be stored: 1,024 bytes of $FF, 127 spaces
 // each, are 130,048 bytes.
 const LONGEST: usize = 131072;
@@ -160,6 +193,7 @@ fn shown(image: &[u8], t: Text, d: Desk, command: usize, number: u32) -> Text {
     match command {
         script::SECTOR => sector(image, t, number),
         script::DESK => listing::desk(d),
+        script::DESK_BYTES => Text::empty().hex(&listing::packed(d)),
         script::SUM => sum(image),
         _ => t,
     }
@@ -189,6 +223,8 @@ fn work(image: &mut [u8], s: Session, call: Call) -> Session {
         script::NEW => fresh(image, s, call.one),
         script::POKE => poke(image, s, call.one, data),
         script::FORMAT..=script::UPDATE_TEXT => serve(image, s, call, data),
+        script::IOCB => request(image, s, call),
+        script::IOCB_WITH => request_with(image, s, call),
         _ => look(image, s, call, data),
     }
 }

@@ -7,7 +7,7 @@ use denote.Ref.{now}
 use borrow.Author.Needs.{needs}
 use Rattle.numbers.specs.Numbers.{mostSectors}
 use Rattle.lists.specs.Parts.{put}
-use Rattle.records.proofs.StreamBytes.{put-none}
+use Rattle.lists.proofs.Puts.{put-none}
 use Rattle.ownership.specs.Blocks.{segments}
 use Rattle.ownership.proofs.BlockFacts.{block-facts}
 use Rattle.files.proofs.MapFilled.{firstOf, first-none, segment-ends, segment-room, length-more, fill-more, first-all, put-over}

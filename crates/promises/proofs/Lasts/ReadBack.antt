@@ -29,7 +29,7 @@ use Rattle.promises.proofs.Appending.{Appending, appending}
 use Rattle.promises.proofs.Writing.{accepted-write}
 use Rattle.promises.proofs.Updating.{accepted-update}
 use Rattle.promises.proofs.Preserved.{sound-next}
-use Rattle.promises.proofs.Lasting.{lasts-through}
+use Rattle.promises.proofs.Lasts.Lasting.{lasts-through}
 use Rattle.promises.proofs.Reading.{accepted-read}
 
 -- a unit after a call, still there after the visits between

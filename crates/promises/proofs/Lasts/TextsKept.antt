@@ -20,7 +20,7 @@ use Rattle.promises.specs.Lasting.{ReadsAs, HandsBack, HandsBackText, Wr
 use Rattle.promises.specs.Texts.{LongestText, RunByRun, OptionIgnored}
 use Rattle.promises.proofs.Passing.{accepted}
 use Rattle.promises.proofs.Told.{write-fit, update-fit}
-use Rattle.promises.proofs.ReadBack.{written-is-read, updated-is-read}
+use Rattle.promises.proofs.Lasts.ReadBack.{written-is-read, updated-is-read}
 
 -- what is stored of a text, handed over as a text and as it is
 back : (e bs : List ℕ) → asText true e ≡ true → isText bs ≡ true → handedAs true e (storedAs true e bs) ≡ bs

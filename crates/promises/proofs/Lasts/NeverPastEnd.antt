@@ -18,7 +18,7 @@ use Rattle.promises.specs.Answers.{First}
 use Rattle.promises.proofs.Passing.{first-later}
 use Rattle.promises.proofs.Answers.{refused-first}
 use Rattle.promises.proofs.Held.{entryOf}
-use Rattle.promises.proofs.Lasting.{lasts-through}
+use Rattle.promises.proofs.Lasts.Lasting.{lasts-through}
 
 -- no rule of a read that is there says $C2
 Never : Refusal → List Rule → Type 0

@@ -1,0 +1,7 @@
+pub mod Filling
+pub mod JoinedPieces
+pub mod LunBytes
+pub mod PackedDesk
+pub mod PackedLun
+pub mod UnpackedDesk
+pub mod UnpackedLun

@@ -1,0 +1,6 @@
+pub mod AnsweredBlocks
+pub mod FilledAreas
+pub mod KeptDesks
+pub mod RequestsLeft
+pub mod ServedCalls
+pub mod TransferCalls

@@ -1,0 +1,4 @@
+pub mod Blocks
+pub mod Areas
+pub mod Front
+pub mod Code

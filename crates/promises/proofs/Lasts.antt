@@ -1,0 +1,4 @@
+pub mod Lasting
+pub mod NeverPastEnd
+pub mod ReadBack
+pub mod TextsKept
