@@ -25,7 +25,7 @@ fn size(second: bool, task: &[u8], shared: &[u8]) -> usize
 }
 
 /// Whether the part from a start to an end address, both included, lies wholly inside the named area.
-pub fn inside(start: usize, end: usize, task: &[u8], shared: &[u8]) -> bool
+pub(crate) fn inside(start: usize, end: usize, task: &[u8], shared: &[u8]) -> bool
     ensures { λ r. ⌜ r ≡ inside start end (now (task .entry)) (now (shared .entry)) ⌝ }
 {
     let named = size(names_shared(start), task, shared);
@@ -42,7 +42,7 @@ pub struct Span {
 }
 
 /// The part from a start to an end address, both included.
-pub fn span_of(start: usize, end: usize) -> Span
+pub(crate) fn span_of(start: usize, end: usize) -> Span
     ensures { λ r. ⌜ r ≡ spanOf start end ⌝ }
 {
     Span {
@@ -53,7 +53,7 @@ pub fn span_of(start: usize, end: usize) -> Span
 }
 
 /// That part of the named area.
-pub fn part<'a>(task: &'a [u8], shared: &'a [u8], p: Span) -> &'a [u8]
+pub(crate) fn part<'a>(task: &'a [u8], shared: &'a [u8], p: Span) -> &'a [u8]
     requires { ⌜ Within p (now task) (now shared) ⌝ }
     ensures { λ r. ⌜ now r ≡ partOf p (area (p .shared) (now (task .entry)) (now (shared .entry))) ⌝ }
 {
@@ -67,7 +67,7 @@ pub fn part<'a>(task: &'a [u8], shared: &'a [u8], p: Span) -> &'a [u8]
 }
 
 /// The one of two lent areas that is named.
-pub fn chosen<'a>(task: &'a mut [u8], shared: &'a mut [u8], second: bool) -> &'a mut [u8]
+pub(crate) fn chosen<'a>(task: &'a mut [u8], shared: &'a mut [u8], second: bool) -> &'a mut [u8]
     ensures { λ r. ⌜ r ≡ chosenOf second (task .entry) (shared .entry) ⌝ }
 {
     if second { shared } else { task }

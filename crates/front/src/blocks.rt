@@ -46,21 +46,21 @@ fn rewind_options(w: usize) -> bool
 }
 
 /// The selector, 0 to 3, that an options word has.
-pub fn selector(w: usize) -> u32
+pub(crate) fn selector(w: usize) -> u32
     ensures { λ r. ⌜ r ≡ selectorIn w ⌝ }
 {
     (w / 8192 % 4) as u32
 }
 
 /// Whether an options word asks for a formatted transfer.
-pub fn formatted(w: usize) -> bool
+pub(crate) fn formatted(w: usize) -> bool
     ensures { λ r. ⌜ r ≡ formattedIn w ⌝ }
 {
     clear(w, 3) & clear(w, 0)
 }
 
 /// The options word of a block.
-pub fn options(block: &[u8]) -> usize
+pub(crate) fn options(block: &[u8]) -> usize
     requires { ⌜ length (now block) ≡ blockSize ⌝ }
     ensures { λ r. ⌜ (r ≡ optionsOf (now (block .entry))) × (r < 65536) ⌝ }
 {
@@ -68,7 +68,7 @@ pub fn options(block: &[u8]) -> usize
 }
 
 /// Whether a block asks for a read, a write or an update.
-pub fn is_transfer(block: &[u8]) -> bool
+pub(crate) fn is_transfer(block: &[u8]) -> bool
     requires { ⌜ length (now block) ≡ blockSize ⌝ }
     ensures { λ r. ⌜ r ≡ isTransfer (now (block .entry)) ⌝ }
 {
@@ -79,7 +79,7 @@ pub fn is_transfer(block: &[u8]) -> bool
 }
 
 /// Whether a block asks for a rewind.
-pub fn is_rewind(block: &[u8]) -> bool
+pub(crate) fn is_rewind(block: &[u8]) -> bool
     requires { ⌜ length (now block) ≡ blockSize ⌝ }
     ensures { λ r. ⌜ r ≡ isRewind (now (block .entry)) ⌝ }
 {
@@ -94,7 +94,7 @@ fn wide_long(x: u32) -> usize
 }
 
 /// Writes an answer's number and length into a block.
-pub fn write_answer(block: &mut [u8], a: Answer)
+pub(crate) fn write_answer(block: &mut [u8], a: Answer)
     requires { ⌜ length (now block) ≡ blockSize ⌝ }
     ensures { λ _. ⌜ now (block .exit) ≡ blockAfter a (now (block .entry)) ⌝ }
 {

@@ -18,7 +18,7 @@ pub fn open(bytes: &[u8]) -> Desk
 }
 
 /// Packs the desk after a call, if it was accepted, and hands its answer on.
-pub fn keep(r: Reply, bytes: &mut [u8]) -> Answer
+pub(crate) fn keep(r: Reply, bytes: &mut [u8]) -> Answer
     requires { ⌜ length (now bytes) ≡ deskSize ⌝ }
     ensures { λ a. ⌜ (a ≡ r .answer) × (now (bytes .exit) ≡ deskAfter (r .answer) (r .desk) (now (bytes .entry))) ⌝ }
 {

@@ -154,7 +154,7 @@ fn rewind(block: &[u8], image: &[u8], desk: &mut [u8], caller: u32) -> Answer
 }
 
 /// A block of 28 bytes: desk bytes and code are judged, and then it is carried out.
-pub fn request(
+pub(crate) fn request(
     block: &[u8],
     image: &mut [u8],
     desk: &mut [u8],

@@ -31,7 +31,7 @@ fn reported(r: Report) -> u32
 }
 
 /// The number of an answer of check.
-pub fn verdict_of(a: Answer) -> u32
+pub(crate) fn verdict_of(a: Answer) -> u32
     requires { ⌜ verdict a < 131072 ⌝ }
     ensures { λ n. ⌜ n ≡ verdict a ⌝ }
 {
