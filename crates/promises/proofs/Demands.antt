@@ -25,7 +25,7 @@ use Rattle.promises.proofs.Lasts.NeverPastEnd.{never-past-end}
 use Rattle.promises.proofs.Fronts.PackedDesks.{desk-reads-back, no-two-desks-alike, one-plain-desk}
 use Rattle.promises.proofs.Fronts.PlainDesks.{calls-make-plain}
 use Rattle.promises.proofs.Fronts.FrontAnswers.{front-in-table, request-refusal-keeps, front-refusal-keeps, short-block, front-refused-exactly, one-ending}
-use Rattle.promises.proofs.Fronts.FrontCarried.{block-marked, only-the-part, accepted-through}
+use Rattle.promises.proofs.Fronts.FrontCarried.{block-answered, only-the-part, only-reads-fill, accepted-through}
 use Rattle.promises.proofs.Fronts.FrontReadBack.{written-through, written-sector-through, updated-through}
 use Rattle.promises.proofs.Fronts.FrontRuns.{requests-are-visits, requests-are-runs, front-stays-good}
 use Rattle.promises.proofs.Conclusions.{not-all-refused, not-all-done, not-unchanged, not-only-E, check-counts}
@@ -78,8 +78,9 @@ demands = record {
   request-refusal-keeps = request-refusal-keeps;
   front-refusal-keeps = front-refusal-keeps;
   short-block = short-block;
-  block-marked = block-marked;
+  block-answered = block-answered;
   only-the-part = only-the-part;
+  only-reads-fill = only-reads-fill;
   front-refused-exactly = front-refused-exactly;
   accepted-through = accepted-through;
   written-through = written-through;

@@ -12,11 +12,9 @@ use Rattle.promises.specs.Lasting.{WrittenSectorIsRead, NeverPastEnd}
 use Rattle.promises.specs.Texts.{PackedReadsBack, NoTwoStoredAlike, NeverLonger, NoEmptyByte, LongestText, RunByRun, SamplesPacked}
 use Rattle.promises.specs.Texts.{OptionIgnored}
 use Rattle.promises.specs.DeskBytes.{DeskReadsBack, NoTwoDesksAlike, OnePlainDesk, CallsMakePlain}
-use Rattle.promises.specs.Fronts.{FrontInTable, RequestRefusalKeeps, FrontRefusalKeeps, ShortBlock, BlockMarked, OnlyThePart}
-use Rattle.promises.specs.Fronts.{FrontRefusedExactly}
-use Rattle.promises.specs.Fronts.{AcceptedThrough, WrittenThrough, WrittenSectorThrough, UpdatedThrough, RequestsAreVisits}
-use Rattle.promises.specs.Fronts.{RequestsAreRuns, FrontStaysGood}
-use Rattle.promises.specs.Fronts.{OneEnding}
+use Rattle.promises.specs.Fronts.{FrontInTable, RequestRefusalKeeps, FrontRefusalKeeps, ShortBlock, BlockAnswered, OnlyThePart}
+use Rattle.promises.specs.Fronts.{OnlyReadsFill, FrontRefusedExactly, AcceptedThrough, WrittenThrough, WrittenSectorThrough}
+use Rattle.promises.specs.Fronts.{UpdatedThrough, RequestsAreVisits, RequestsAreRuns, FrontStaysGood, OneEnding}
 use Rattle.promises.specs.FrontSteps.{FrontSteps}
 use Rattle.promises.specs.Conclusions.{NotAllRefused, NotAllDone, NotUnchanged, NotOnlyE, CheckCounts}
 use Rattle.promises.specs.Steps.{SmallVolume}
@@ -88,8 +86,9 @@ pub record Demands : Type 0 where
   pub request-refusal-keeps : RequestRefusalKeeps
   pub front-refusal-keeps : FrontRefusalKeeps
   pub short-block : ShortBlock
-  pub block-marked : BlockMarked
+  pub block-answered : BlockAnswered
   pub only-the-part : OnlyThePart
+  pub only-reads-fill : OnlyReadsFill
   -- demand 2, and "what was written through it is read through it";
   pub front-refused-exactly : FrontRefusedExactly
   pub accepted-through : AcceptedThrough

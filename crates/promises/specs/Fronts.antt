@@ -18,7 +18,8 @@ use Rattle.desk.specs.Answers.{Outcome, moved}
 use Rattle.desk.specs.Calls.{Call, Format, rules, sent, step}
 use Rattle.front.specs.Blocks.{blockSize, functionOf, optionsOf, lunIn, numberIn, startIn, endIn, selectorIn, formattedIn, isTransfer}
 use Rattle.front.specs.Areas.{namesShared, offset, area, partNamed}
-use Rattle.front.specs.Front.{packedDesk, unpackedDesk, Served, served, serve, serveFormat, Lent, lent, Ended, ended, frontRules, asked}
+use Rattle.front.specs.Front.{packedDesk, unpackedDesk, Served, served, serve, serveFormat, serveCheck, Lent, lent, Ended, ended}
+use Rattle.front.specs.Front.{frontRules, asked}
 use Rattle.front.specs.Front.{front}
 use Rattle.promises.specs.Answers.{statusTable}
 use Rattle.promises.specs.Contents.{slotHeld}
@@ -69,14 +70,14 @@ abbrev pub ShortBlock : Type 0
 ShortBlock = (caller : ℕ) (l : Lent) → length (l .block) ≢ blockSize → front caller l ≡ ended 0x84 l
 
 -- "Status goes to byte 4, length to $14-$17, a refusal its number and length 0; no other block byte changes, refused or not"
-pub record MarkedBlock (b : List ℕ) (e : Ended) : Type 0 where
+pub record AnsweredBlock (b : List ℕ) (e : Ended) : Type 0 where
   pub as-long : length (e .left .block) ≡ length b
   pub status-there : byte (e .left .block) 4 ≡ e .returned
   pub refused-length : e .returned ≢ 0x00 → long (e .left .block) 0x14 ≡ 0
   pub others-kept : (j : ℕ) → j ≢ 4 → (j < 0x14) ⊎ (0x18 ≤ j) → byte (e .left .block) j ≡ byte b j
 
-abbrev pub BlockMarked : Type 0
-BlockMarked = (caller : ℕ) (l : Lent) → length (l .block) ≡ blockSize → MarkedBlock (l .block) (front caller l)
+abbrev pub BlockAnswered : Type 0
+BlockAnswered = (caller : ℕ) (l : Lent) → length (l .block) ≡ blockSize → AnsweredBlock (l .block) (front caller l)
 
 -- "and no byte of either area outside the part" from address a to address e
 pub record OutsideKept (a e : ℕ) (l m : Lent) : Type 0 where
@@ -87,6 +88,12 @@ pub record OutsideKept (a e : ℕ) (l m : Lent) : Type 0 where
 
 abbrev pub OnlyThePart : Type 0
 OnlyThePart = (caller : ℕ) (l : Lent) → OutsideKept (startIn (l .block)) (endIn (l .block)) l (front caller l .left)
+
+-- only a read writes into its part: after any other request both areas are as they were
+abbrev pub OnlyReadsFill : Type 0
+OnlyReadsFill =
+    (caller : ℕ) (l : Lent) → functionOf (l .block) ≢ 0x01
+    → (front caller l .left .task ≡ l .task) × (front caller l .left .shared ≡ l .shared)
 
 -- Demand 2: the front's order, "then the call's own order": what is returned is the number of the first rule that applies, or $00
 abbrev pub FrontRefusedExactly : Type 0
@@ -107,8 +114,7 @@ AcceptedThrough =
     (caller : ℕ) (l : Lent) → front caller l .returned ≡ 0x00
     → CarriedOut (asked caller l) l (step (asked caller l) (stateOf l)) (front caller l)
 
--- a transfer of this function code; the bytes that it lends, its LUN's slot, the record or sector that it aims at, and whether it is
--- formatted
+-- a transfer of this function code; the bytes that it lends, its LUN's slot, the record or sector that it aims at, and its file's entry
 pub record Asks (f : ℕ) (l : Lent) : Type 0 where
   pub is-transfer : isTransfer (l .block) ≡ true
   pub its-function : functionOf (l .block) ≡ f
@@ -229,8 +235,12 @@ FrontStaysGood =
     → Good (state (imageAfter (Formats id n ∷ rs) img bs) (unpackedDesk (bytesAfter (Formats id n ∷ rs) img bs)))
     × InOrder (imageAfter (Formats id n ∷ rs) img bs)
 
--- At most one outcome satisfies what the entry ensures, and what the calls over image and desk bytes ensure
+-- At most one outcome satisfies what each function for C ensures
 pub record OneEnding : Type 0 where
-  pub of-blocks : (caller : ℕ) (l : Lent) (n n′ : ℕ) (m m′ : Lent) → ended n m ≡ front caller l → ended n′ m′ ≡ front caller l → (n ≡ n′)
-      × (m ≡ m′)
-  pub of-calls : (c : Call) (img bs : List ℕ) (x y : Served) → x ≡ serve c img bs → y ≡ serve c img bs → x ≡ y
+  pub of-blocks : (caller : ℕ) (l : Lent) (n n′ : ℕ) (m m′ : Lent) → ended n m ≡ front caller l → ended n′ m′ ≡ front caller l
+      → (n ≡ n′) × (m ≡ m′)
+  pub of-calls : (c : Call) (img bs : List ℕ) (n n′ : ℕ) (a a′ b b′ : List ℕ) → served n a b ≡ serve c img bs
+      → served n′ a′ b′ ≡ serve c img bs → (n ≡ n′) × (a ≡ a′) × (b ≡ b′)
+  pub of-format : (id : List ℕ) (dirs : ℕ) (img bs : List ℕ) (n n′ : ℕ) (a a′ b b′ : List ℕ) → served n a b ≡ serveFormat id dirs img bs
+      → served n′ a′ b′ ≡ serveFormat id dirs img bs → (n ≡ n′) × (a ≡ a′) × (b ≡ b′)
+  pub of-check : (img : List ℕ) (n n′ : ℕ) → n ≡ serveCheck img → n′ ≡ serveCheck img → n ≡ n′

@@ -153,8 +153,16 @@ front-refused-exactly caller l =
     ∙ ap (λ (n : ℕ). ruled (frontRules l) code n) (carried-number _ l ∙ step-number (asked caller l) l)
     ∙ ruled-more (frontRules l) (rules (asked caller l) (stateOf l)) code 0x00
 
+-- equal records have equal fields
+same-served : (x : Served) (n n′ : ℕ) (a a′ b b′ : List ℕ) → served n a b ≡ x → served n′ a′ b′ ≡ x → (n ≡ n′) × (a ≡ a′) × (b ≡ b′)
+same-served x n n′ a a′ b b′ e f =
+    let q : served n a b ≡ served n′ a′ b′ = e ∙ sym f in
+    (ap (λ (v : Served). v .returned) q, ap (λ (v : Served). v .image) q, ap (λ (v : Served). v .desk) q)
+
 pub one-ending : OneEnding
 one-ending = record {
   of-blocks = λ caller l n n′ m m′ e f. (ap (λ (x : Ended). x .returned) (e ∙ sym f), ap (λ (x : Ended). x .left) (e ∙ sym f));
-  of-calls = λ c img bs x y e f. e ∙ sym f;
+  of-calls = λ c img bs. same-served (serve c img bs);
+  of-format = λ id dirs img bs. same-served (serveFormat id dirs img bs);
+  of-check = λ img n n′ e f. e ∙ sym f;
 }

@@ -1,13 +1,14 @@
 -- The block and the areas after a request through the front, and what an accepted one leaves.
-use mathlib.Core.Bool.{Bool, true, false}
+use mathlib.Core.Bool.{Bool, true, false, true≢false}
 use mathlib.Core.List.{List, [], _∷_}
 use mathlib.Core.Logic.{⊎-elim, _≢_, _⊎_, inl, inr}
 use mathlib.Core.Path.{_≡_, refl, ap, sym, subst, _∙_}
 use native.Mathlib.Decide.{decLt}
 use native.Mathlib.Omega.{arith}
 use Prim.Native.Nat.{ℕ, _+_, _-_, _<_, _≤_}
+use lib.Dec.{eqb}
 use lib.ListN.{length, length-append, length-drop}
-use borrow.Author.Tests.{eq-eqb}
+use borrow.Author.Tests.{eq-eqb, ne-eqb}
 use Rattle.lists.specs.Lists.{if_then_else_}
 use Rattle.lists.specs.Parts.{byte, long, bytes4, part, put, over}
 use Rattle.lists.proofs.Puts.{length-put, part-put-same, put-none}
@@ -17,14 +18,15 @@ use Rattle.desk.specs.declared.Answer.the-variants.{Refused}
 use Rattle.desk.specs.Desk.{State}
 use Rattle.desk.specs.Answers.{Outcome, status, moved, accepts}
 use Rattle.desk.specs.Calls.{Call, Format, Check, Allocate, Assign, Close, Rewind, Delete, Read, Write, Update, given, done, quietly, checked, transferred, step}
-use Rattle.front.specs.Blocks.{blockSize, startIn, endIn, isTransfer, blockAfter}
-use Rattle.front.specs.Areas.{namesShared, offset, area, partNamed}
-use Rattle.front.specs.Front.{packedDesk, deskAfter, Lent, Ended, asked, turnedBack, carriedOut, front}
-use Rattle.promises.specs.Fronts.{stateOf, bytesLent, BlockMarked, OutsideKept, OnlyThePart, CarriedOut, AcceptedThrough}
+use Rattle.front.specs.Blocks.{blockSize, functionOf, lunIn, startIn, endIn, isTransfer, blockAfter}
+use Rattle.front.specs.Areas.{namesShared, offset, area, partNamed, taskAfter, sharedAfter}
+use Rattle.front.specs.Front.{packedDesk, deskAfter, Lent, Ended, transferAsked, asked, turnedBack, carriedOut, front}
+use Rattle.promises.specs.Fronts.{stateOf, bytesLent, BlockAnswered, OutsideKept, OnlyThePart, OnlyReadsFill, CarriedOut, AcceptedThrough}
 use Rattle.promises.proofs.Answers.{refusal-keeps}
 use Rattle.promises.proofs.Fronts.FrontAnswers.{refused-number, carried-number, Which, was-done, was-refused, which}
-use Rattle.promises.proofs.Fronts.FrontCases.{PassedFront, front-cases, code-not-0, given-asked, lies, named-after, other-after, lent-long}
-use Rattle.promises.proofs.Passing.{accepted}
+use Rattle.promises.proofs.Fronts.FrontCases.{PassedFront, front-cases, code-not-0, given-asked, lies, named-after, other-after, lent-long, lent-back, task-same}
+use Rattle.promises.proofs.Fronts.FrontCases.{shared-same}
+use Rattle.promises.proofs.Passing.{accepted, refused-or-accepted}
 use Rattle.lists.proofs.PutBytes.{byte-put-outside, byte-put-inside, long-put}
 use Rattle.promises.proofs.Reading.{accepted-read}
 
@@ -88,8 +90,8 @@ refused-moves-none a n = go (which a)
     go (was-done x z) = absurd (n z)
     go (was-refused why e) = ap moved e
 
-pub block-marked : BlockMarked
-block-marked caller l n =
+pub block-answered : BlockAnswered
+block-answered caller l n =
     let t = block-told caller l in record {
       as-long = ap length (t .block-is) ∙ block-long (t .answer) (l .block) n;
       status-there = ap (λ (b : List ℕ). byte b 4) (t .block-is) ∙ block-status (t .answer) (l .block) n ∙ sym (t .number-is);
@@ -129,6 +131,41 @@ buffer-long c s = go (which (step c s .answer))
     go : Which (step c s .answer) → length (step c s .buffer) ≡ length (given c)
     go (was-done h z) = done-long c s h
     go (was-refused why e) = ap length (refusal-keeps c s why e .buffer-kept)
+
+-- what a write, an update and a rewind are lent stays as it is
+abbrev LeavesBuffer : Call → Type 0
+LeavesBuffer c = (s : State) → step c s .buffer ≡ given c
+
+by-change : (c : Call) → ((s : State) → done c s .buffer ≡ given c) → LeavesBuffer c
+by-change c h s =
+    ⊎-elim (λ t. ap (λ (o : Outcome). o .buffer) (t .is)) (λ t. ap (λ (o : Outcome). o .buffer) (t .is) ∙ h s) (refused-or-accepted c s)
+
+write-leaves : (caller lun sel num : ℕ) (fmt : Bool) (bs : List ℕ) → LeavesBuffer (Write caller lun sel num fmt bs)
+unfolding done given transferred writing moving
+write-leaves caller lun sel num fmt bs = by-change (Write caller lun sel num fmt bs) (λ s. refl)
+
+update-leaves : (caller lun sel num : ℕ) (fmt : Bool) (bs : List ℕ) → LeavesBuffer (Update caller lun sel num fmt bs)
+unfolding done given transferred updating moving
+update-leaves caller lun sel num fmt bs = by-change (Update caller lun sel num fmt bs) (λ s. refl)
+
+rewind-leaves : (caller lun : ℕ) → LeavesBuffer (Rewind caller lun)
+unfolding done given quietly
+rewind-leaves caller lun = by-change (Rewind caller lun) (λ s. refl)
+
+-- .. so a request of another function than read leaves what it lent
+not-first : (x y : Bool) (A B C : Call) → x ≡ false → LeavesBuffer B → LeavesBuffer C → LeavesBuffer (if x then A else if y then B else C)
+not-first true y A B C e b c = absurd (true≢false e)
+not-first false true A B C e b c = b
+not-first false false A B C e b c = c
+
+asked-leaves : (caller : ℕ) (l : Lent) → functionOf (l .block) ≢ 0x01 → LeavesBuffer (asked caller l)
+unfolding asked transferAsked
+asked-leaves caller l n = go (isTransfer (l .block))
+  where
+    go : (b : Bool) → LeavesBuffer (if b then transferAsked caller (l .block) (bytesLent l) else Rewind caller (lunIn (l .block)))
+    go true =
+        not-first (eqb (functionOf (l .block)) 0x01) (eqb (functionOf (l .block)) 0x02) _ _ _ (ne-eqb _ _ n) (write-leaves _ _ _ _ _ _) (update-leaves _ _ _ _ _ _)
+    go false = rewind-leaves caller (lunIn (l .block))
 
 abbrev fromAddress : Lent → ℕ
 fromAddress l = startIn (l .block)
@@ -204,6 +241,27 @@ only-the-part caller l =
     ⊎-elim
     (λ r. subst (λ (x : Ended). OutsideKept (startIn (l .block)) (endIn (l .block)) l (x .left)) (sym (r .is)) (refused-outside (Refused (r .why)) _ _ l))
     (λ p. subst (λ (x : Ended). OutsideKept (startIn (l .block)) (endIn (l .block)) l (x .left)) (sym (p .is)) (carried-outside caller l p))
+    (front-cases caller l)
+
+-- only a read writes into its part
+refused-areas : (r : Answer) (l : Lent) → (turnedBack r l .left .task ≡ l .task) × (turnedBack r l .left .shared ≡ l .shared)
+unfolding turnedBack
+refused-areas r l = (refl, refl)
+
+carried-areas : (caller : ℕ) (l : Lent) → PassedFront caller l → functionOf (l .block) ≢ 0x01
+    → (carriedOut (step (asked caller l) (stateOf l)) l .left .task ≡ l .task) × (carriedOut (step (asked caller l) (stateOf l)) l .left .shared ≡ l .shared)
+unfolding carriedOut
+carried-areas caller l p n =
+    let q = asked-leaves caller l n (stateOf l) in (
+      ap (λ (b : List ℕ). taskAfter (startIn (l .block)) b (l .task)) q ∙ task-same _ _ (l .task) (l .shared) (lent-back caller l p),
+      ap (λ (b : List ℕ). sharedAfter (startIn (l .block)) b (l .shared)) q ∙ shared-same _ _ (l .task) (l .shared) (lent-back caller l p),
+    )
+
+pub only-reads-fill : OnlyReadsFill
+only-reads-fill caller l n =
+    ⊎-elim
+    (λ r. subst (λ (x : Ended). (x .left .task ≡ l .task) × (x .left .shared ≡ l .shared)) (sym (r .is)) (refused-areas (Refused (r .why)) l))
+    (λ p. subst (λ (x : Ended). (x .left .task ≡ l .task) × (x .left .shared ≡ l .shared)) (sym (p .is)) (carried-areas caller l p n))
     (front-cases caller l)
 
 pub accepted-through : AcceptedThrough
