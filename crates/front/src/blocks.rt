@@ -3,21 +3,77 @@ ghost use mathlib.Core.Path.{_≡_};
 ghost use mathlib.Core.Bool.{not};
 ghost use Prim.Native.Nat.{_<_};
 ghost use lib.ListN.{length};
-ghost use Rattle.front.specs.Blocks.{blockSize, bit, transferOptions, rewindOptions, selectorIn, formattedIn, optionsOf, isTransfer};
-ghost use Rattle.front.specs.Blocks.{isRewind, blockAfter};
+ghost use Rattle.front.specs.Blocks.{blockSize, functionOf, optionsOf, lunIn, numberIn, startIn, endIn, bit, transferOptions};
+ghost use Rattle.front.specs.Blocks.{rewindOptions, selectorIn, formattedIn, isTransfer, isRewind, blockAfter};
 use desk::Answer;
 use desk::answers::moved_of;
 use desk::answers::status_of;
+use lists::parts::long_at;
 use lists::parts::put_long;
+use lists::parts::wide;
 use lists::parts::word_at;
 
 /// Bytes of a request block.
 pub const BLOCK_BYTES: usize = 28;
 
-/// The bytes that a request block's answer goes to.
-pub const STATUS_AT: usize = 4;
+// Where a block has its request code, function, options, status, LUN, record number, start address, end address and length.
+const CODE_AT: usize = 0;
 
-pub const LENGTH_AT: usize = 0x14;
+const FUNCTION_AT: usize = 1;
+
+const OPTIONS_AT: usize = 2;
+
+const STATUS_AT: usize = 4;
+
+const LUN_AT: usize = 5;
+
+const NUMBER_AT: usize = 8;
+
+const START_AT: usize = 12;
+
+const END_AT: usize = 16;
+
+const LENGTH_AT: usize = 0x14;
+
+/// The function of a block.
+pub(crate) fn function(block: &[u8]) -> u8
+    requires { ⌜ length (now block) ≡ blockSize ⌝ }
+    ensures { λ r. ⌜ r ≡ functionOf (now (block .entry)) ⌝ }
+{
+    block[FUNCTION_AT]
+}
+
+/// The LUN of a block.
+pub(crate) fn lun(block: &[u8]) -> u32
+    requires { ⌜ length (now block) ≡ blockSize ⌝ }
+    ensures { λ r. ⌜ r ≡ lunIn (now (block .entry)) ⌝ }
+{
+    wide(block[LUN_AT]) as u32
+}
+
+/// The record number of a block.
+pub(crate) fn number(block: &[u8]) -> u32
+    requires { ⌜ length (now block) ≡ blockSize ⌝ }
+    ensures { λ r. ⌜ r ≡ numberIn (now (block .entry)) ⌝ }
+{
+    long_at(block, NUMBER_AT) as u32
+}
+
+/// The start address of a block.
+pub(crate) fn start(block: &[u8]) -> usize
+    requires { ⌜ length (now block) ≡ blockSize ⌝ }
+    ensures { λ r. ⌜ r ≡ startIn (now (block .entry)) ⌝ }
+{
+    long_at(block, START_AT)
+}
+
+/// The end address of a block.
+pub(crate) fn end(block: &[u8]) -> usize
+    requires { ⌜ length (now block) ≡ blockSize ⌝ }
+    ensures { λ r. ⌜ r ≡ endIn (now (block .entry)) ⌝ }
+{
+    long_at(block, END_AT)
+}
 
 // Whether bit k of an options word is clear.
 fn clear(w: usize, k: usize) -> bool
@@ -64,7 +120,7 @@ pub(crate) fn options(block: &[u8]) -> usize
     requires { ⌜ length (now block) ≡ blockSize ⌝ }
     ensures { λ r. ⌜ (r ≡ optionsOf (now (block .entry))) × (r < 65536) ⌝ }
 {
-    word_at(block, 2)
+    word_at(block, OPTIONS_AT)
 }
 
 /// Whether a block asks for a read, a write or an update.
@@ -72,9 +128,9 @@ pub(crate) fn is_transfer(block: &[u8]) -> bool
     requires { ⌜ length (now block) ≡ blockSize ⌝ }
     ensures { λ r. ⌜ r ≡ isTransfer (now (block .entry)) ⌝ }
 {
-    let function = block[1];
-    (block[0] == 0x00)
-        & ((function == 0x01) | (function == 0x02) | (function == 0x08))
+    let f = block[FUNCTION_AT];
+    (block[CODE_AT] == 0x00)
+        & ((f == 0x01) | (f == 0x02) | (f == 0x08))
         & transfer_options(options(block))
 }
 
@@ -83,7 +139,7 @@ pub(crate) fn is_rewind(block: &[u8]) -> bool
     requires { ⌜ length (now block) ≡ blockSize ⌝ }
     ensures { λ r. ⌜ r ≡ isRewind (now (block .entry)) ⌝ }
 {
-    (block[0] == 0x01) & (block[1] == 0x02) & rewind_options(options(block))
+    (block[CODE_AT] == 0x01) & (block[FUNCTION_AT] == 0x02) & rewind_options(options(block))
 }
 
 // A long number, with its bound for the bytes that it goes to.

@@ -18,8 +18,6 @@ use crate::desks;
 use desk::Answer;
 use desk::Desk;
 use desk::Reply;
-use lists::parts::long_at;
-use lists::parts::wide;
 use work::Refusal;
 
 /// What a transfer's block asks for, beside its function and its part.
@@ -36,9 +34,9 @@ fn order_of(block: &[u8]) -> Order
 {
     let w = blocks::options(block);
     Order {
-        lun: wide(block[5]) as u32,
+        lun: blocks::lun(block),
         sel: blocks::selector(w),
-        num: long_at(block, 8) as u32,
+        num: blocks::number(block),
         formatted: blocks::formatted(w),
     }
 }
@@ -132,15 +130,24 @@ fn transfer(
     ensures { λ a. ⌜ passed a (now (image .exit)) (now (desk .exit)) (now (task .exit)) (now (shared .exit))
         ≡ transferLeft caller (now (block .entry)) (now (image .entry)) (now (desk .entry)) (now (task .entry)) (now (shared .entry)) ⌝ }
 {
-    let start = long_at(block, 12);
-    let end = long_at(block, 16);
+    let start = blocks::start(block);
+    let end = blocks::end(block);
     if !areas::inside(start, end, task, shared) {
         return Answer::Refused(Refusal::BadLength);
     }
     let d = desks::open(desk);
     let o = order_of(block);
     let p = areas::span_of(start, end);
-    let r = carry(block[1], d, image, caller, o, p, task, shared);
+    let r = carry(
+        blocks::function(block),
+        d,
+        image,
+        caller,
+        o,
+        p,
+        task,
+        shared,
+    );
     desks::keep(r, desk)
 }
 
@@ -150,7 +157,7 @@ fn rewind(block: &[u8], image: &[u8], desk: &mut [u8], caller: u32) -> Answer
         ≡ rewindLeft caller (now (block .entry)) (now (image .entry)) (now (desk .entry)) t s) ⌝ }
 {
     let d = desks::open(desk);
-    desks::keep(d.rewind(image, caller, wide(block[5]) as u32), desk)
+    desks::keep(d.rewind(image, caller, blocks::lun(block)), desk)
 }
 
 /// A block of 28 bytes: desk bytes and code are judged, and then it is carried out.

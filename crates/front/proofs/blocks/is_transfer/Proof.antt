@@ -5,8 +5,8 @@ use Rattle.front.specs.Blocks.{isTransfer, transferOptions}
 use Rattle.front.proofs.blocks.is_transfer.Statement.{statement}
 use Rattle.front.proofs.blocks.is_transfer.Tie as tie
 
-shared-slice-read-function : tie.Need-shared-slice-read-function
-shared-slice-read-function c = search needs
+shared-slice-read-f : tie.Need-shared-slice-read-f
+shared-slice-read-f c = search needs
 
 shared-slice-read-result : tie.Need-shared-slice-read-result
 shared-slice-read-result c = search needs
@@ -26,7 +26,7 @@ pub is-transfer-spec : {M : Type 1} → statement M
 is-transfer-spec =
     tie.close
     (tie.spec
-    shared-slice-read-function
+    shared-slice-read-f
     shared-slice-read-result
     options-requires
     transfer-options-requires

@@ -6,14 +6,8 @@ use Rattle.front.proofs.requests.rewind.Tie as tie
 open-requires : tie.Need-open-requires
 open-requires c κs = search needs
 
-shared-slice-read-wide : tie.Need-shared-slice-read-wide
-shared-slice-read-wide c = search needs
-
-wide-requires : tie.Need-wide-requires
-wide-requires c κs = search needs
-
-cast-rewind : tie.Need-cast-rewind
-cast-rewind c = search needs
+lun-requires : tie.Need-lun-requires
+lun-requires c κs = search needs
 
 rewind-requires : tie.Need-rewind-requires
 rewind-requires c κs = search needs
@@ -28,19 +22,11 @@ returns : tie.Need-returns
 returns c =
     let keep = c .before .before .keep in
     let rewind = c .before .before .before .before .rewind in
-    let wide = c .before .before .before .before .before .wide in
-    let opened = c .before .before .before .before .before .before .before .«open» in
-    λ t s. rewound _ _ _ _ t s _ _ (rewind .result) _ _ (wide .ensures .0) (opened .ensures) (rewind .ensures) (keep .ensures .0) (keep .ensures .1)
+    let lun = c .before .before .before .before .before .lun in
+    let opened = c .before .before .before .before .before .before .«open» in
+    λ t s. rewound _ _ _ _ t s _ _ (rewind .result) _ _ (lun .ensures) (opened .ensures) (rewind .ensures) (keep .ensures .0) (keep .ensures .1)
 
 pub rewind-spec : {M : Type 1} → statement M
 rewind-spec =
     tie.close
-    (tie.spec
-    open-requires
-    shared-slice-read-wide
-    wide-requires
-    cast-rewind
-    rewind-requires
-    keep-requires
-    same-length
-    returns)
+    (tie.spec open-requires lun-requires rewind-requires keep-requires same-length returns)
