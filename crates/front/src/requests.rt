@@ -61,7 +61,8 @@ fn read_at(d: Desk, image: &[u8], caller: u32, o: Order, p: Span, area: &mut [u8
     )
 }
 
-// Reads into the named part of one of the areas. The other one is lent as an empty part, so that it is known to keep every byte.
+// Reads into the named part of one of the areas. The other one is lent as an empty part, so that it is known to keep every byte; the named
+// one is asked for its length after the read, so that it is still lent then and what it holds is known.
 fn read(
     d: Desk,
     image: &[u8],

@@ -1,6 +1,6 @@
 -- The front: the demands of calls that are made through it.
 use mathlib.Core.Bool.{true, false, not}
-use mathlib.Core.List.{List, [], _∷_, _++_}
+use mathlib.Core.List.{List, [], _∷_, _++_, map}
 use mathlib.Core.Logic.{_≢_, _⊎_}
 use mathlib.Core.Path.{_≡_}
 use Prim.Native.Nat.{ℕ, _+_, _*_, _/_, _<_, _≤_}
@@ -201,9 +201,8 @@ unfoldable pub bytesAfter : List Request → List ℕ → List ℕ → List ℕ
 bytesAfter [] img bs = bs
 bytesAfter (r ∷ rs) img bs = bytesAfter rs (leaves r img bs .image) (leaves r img bs .desk)
 
-unfoldable pub callsBy : List Visit → List Call
-callsBy [] = []
-callsBy (v ∷ vs) = v .call ∷ callsBy vs
+abbrev pub callsBy : List Visit → List Call
+callsBy = map (λ v. v .call)
 
 unfoldable pub callsMade : List Request → List ℕ → List ℕ → List Call
 callsMade [] img bs = []

@@ -75,7 +75,8 @@ pub(crate) struct Call {
 // Which command the word names.
 fn named(word: &[u8]) -> usize {
     let names =
-        b"new poke format allocate delete write write-text update update-text iocb iocb-with check assign close rewind read read-text sector desk desk-bytes sum";
+        b"new poke format allocate delete write write-text update update-text iocb iocb-with check assign \
+          close rewind read read-text sector desk desk-bytes sum";
     let mut k = 0;
     while k < UNREADABLE {
         if same_bytes(word, words::word(names, k)) {

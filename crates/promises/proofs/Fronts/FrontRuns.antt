@@ -146,7 +146,7 @@ format-sent id n h = h
 
 -- what requests send is bytes
 visit-bytes : (rs : List Rule) (v : Visit) → Bytes (sent (v .call)) → AllBytes (callsBy (ruled rs (λ why. []) (v ∷ [])))
-unfolding ruled callsBy
+unfolding ruled
 visit-bytes [] v b = (b, tt)
 visit-bytes (r ∷ rs) v b = go (r .holds) (visit-bytes rs v b)
   where
@@ -221,7 +221,7 @@ record OneRun (r : Request) (s : State) : Type 0 where
   still-plain : PlainDesk (run (callsBy (visitBy r (s .image) (packedDesk (s .desk)))) s .desk)
 
 one-run : (r : Request) (s : State) → PlainDesk (s .desk) → Told r (s .image) (packedDesk (s .desk)) → OneRun r s
-unfolding run callsBy next
+unfolding run next
 one-run r s p (quiet v i d) = record { image-is = rw v i; desk-is = rw v d; still-plain = rw v p }
 one-run r s p (makes c d m) = record {
   image-is = rw (m .one-visit) (m .its-image ∙ images (m .suits));
