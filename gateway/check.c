@@ -205,23 +205,23 @@ void check(uint32_t verdict)
     compare("check", verdict, got);
 }
 
-void allocate(uint32_t status, uint32_t caller, uint32_t kind, uint32_t size, uint32_t record)
+void allocate(uint32_t status, uint32_t caller, uint32_t kind, uint32_t size, uint32_t record, uint8_t read_code)
 {
     uint32_t got;
     seal(DESK, TO_READ);
     seal(NAME, TO_READ);
-    got = twynarvel_allocate(LENT(IMAGE), LENT(DESK), caller, LENT(NAME), kind, size, record);
+    got = twynarvel_allocate(LENT(IMAGE), LENT(DESK), caller, LENT(NAME), kind, size, record, read_code);
     seal(DESK, TO_READ_AND_WRITE);
     seal(NAME, TO_READ_AND_WRITE);
     compare("allocate", status, got);
 }
 
-void assign(uint32_t status, uint32_t caller, uint32_t lun, uint32_t mode, uint32_t at_end)
+void assign(uint32_t status, uint32_t caller, uint32_t lun, uint32_t mode, uint32_t at_end, uint8_t offered)
 {
     uint32_t got;
     seal(IMAGE, TO_READ);
     seal(NAME, TO_READ);
-    got = twynarvel_assign(LENT(IMAGE), LENT(DESK), caller, lun, LENT(NAME), mode, at_end);
+    got = twynarvel_assign(LENT(IMAGE), LENT(DESK), caller, lun, LENT(NAME), mode, at_end, offered);
     seal(IMAGE, TO_READ_AND_WRITE);
     seal(NAME, TO_READ_AND_WRITE);
     compare("assign", status, got);

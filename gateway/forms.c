@@ -44,8 +44,8 @@ void desk_lengths(void)
         transfer(TWYNARVEL_READ, TWYNARVEL_NEXT, 0, 0, 8);
         iocb(status, 0, 5);
         of((unsigned)len, 2);
-        allocate(status, 65534, 1, 0, 0);
-        assign(status, 65534, 0, 0, 0);
+        allocate(status, 65534, 1, 0, 0, 0);
+        assign(status, 65534, 0, 0, 0, 0);
         release(status, 5, 0);
         erase(status, 65534);
     }
@@ -96,13 +96,13 @@ static int of_free(unsigned byte, unsigned value)
     return value == 0 || (byte == 0 && value == 1);
 }
 
-/* Held and Fresh: n zero, so i is zero. n from 1 on with i = 0 is At 0. */
+/* Held and Fresh: n zero, so i is zero. n from 1 on with i = 0 is At 0. Byte 6, the code offered, may be anything. */
 static int of_fresh(unsigned byte, unsigned value)
 {
     switch (byte) {
     case 0: return value == 1;
     case 1: return value < 8;
-    case 2: case 3: case 4: case 5: return 1;
+    case 2: case 3: case 4: case 5: case 6: return 1;
     default: return value == 0;
     }
 }
@@ -114,7 +114,7 @@ static int of_at(unsigned byte, unsigned value)
     case 0: return value == 1;
     case 1: return value < 8;
     case 5: return value != 0;
-    case 6: case 7: return value == 0;
+    case 7: return value == 0;
     default: return 1;
     }
 }
@@ -128,9 +128,9 @@ static void bad_form(unsigned which, size_t lun, const char *twelve)
     iocb(0x6F, 0, 5);
     transfer(TWYNARVEL_WRITE, TWYNARVEL_NEXT, 0, 0, 8);
     iocb(0x6F, 0, 5);
-    allocate(0x6F, 5, 1, 0, 0);
+    allocate(0x6F, 5, 1, 0, 0, 0);
     name(FILE_X);
-    assign(0x6F, 5, 9, 0, 0);
+    assign(0x6F, 5, 9, 0, 0, 0);
     release(0x6F, 5, 1);
     put(DESK, 12, "00 00 0000 00 00 0000 00000000");
     erase(0x6F, 5);
@@ -145,7 +145,7 @@ void desk_forms(void)
     for (lun = 0; lun < 16; lun++) {
         each_byte(lun, "00 00 0000 00 00 0000 00000000", of_free);
         each_byte(lun, "01 04 0005 01 00 0000 00000000", of_fresh);
-        each_byte(lun, "01 07 FFFF FF FF 0000 00010000", of_at);
+        each_byte(lun, "01 07 FFFF FF FF FF00 00010000", of_at);
     }
     rule("bad desk bytes (form, LUN): each call, which would else be accepted");
     for (lun = 5; lun < 16; lun += 10) {
@@ -154,17 +154,18 @@ void desk_forms(void)
         bad_form(3, lun, "00 00 0000 00 00 0000 00000001"); /* free with a place */
         bad_form(4, lun, "01 08 0005 01 00 0000 00000000"); /* mode 8 */
         bad_form(5, lun, "01 80 0005 01 00 0000 00000000"); /* mode 128 */
-        bad_form(6, lun, "01 00 0005 01 00 0100 00000000"); /* byte 6 */
+        bad_form(6, lun, "00 00 0000 00 00 0100 00000000"); /* free with a code */
         bad_form(7, lun, "01 00 0005 01 00 0001 00000000"); /* byte 7 */
-        bad_form(8, lun, "01 00 0005 01 00 0000 00000001"); /* n zero, i not */
-        bad_form(9, lun, "01 00 0005 01 00 0000 01000000");
+        bad_form(8, lun, "01 00 0005 01 00 FF80 00000000");
+        bad_form(9, lun, "01 00 0005 01 00 0000 00000001"); /* n zero, i not */
+        bad_form(10, lun, "01 00 0005 01 00 0000 01000000");
     }
-    /* The same LUN in the form PR of user 5 on Y fits: then the calls are accepted. */
+    /* The same LUN in the form PR of user 5 on Y fits, whatever code is in byte 6: then the calls are accepted. */
     rule("good desk bytes");
     house(8, 8);
-    put(DESK, 180, "01 00 0005 01 01 0000 00000004");
+    put(DESK, 180, "01 00 0005 01 01 0100 00000004");
     rewind_of(15);
-    want(DESK, 180, "01 00 0005 01 00 0000 00000000");
+    want(DESK, 180, "01 00 0005 01 00 0100 00000000");
     iocb(0x00, 0, 5);
     want(DESK, 180, "00 00 0000 00 00 0000 00000000");
     release(0x00, 5, 15);
@@ -183,24 +184,24 @@ void null_pointers(void)
     transfer(TWYNARVEL_READ, TWYNARVEL_NEXT, 0, 0, 1);
     iocb(0x84, 0, 5); /* an area of length 0 has no part */
     format(0x60, 1);  /* an ID of length 0 */
-    allocate(0x64, 5, 1, 0, 0);
-    assign(0x64, 5, 9, 0, 0);
+    allocate(0x64, 5, 1, 0, 0, 0);
+    assign(0x64, 5, 9, 0, 0, 0);
     erase(0x64, 5);
     lend_null(IMAGE); /* no bytes are no volume */
     check(0);
     format(0x60, 1);
     rewind_of(1);
     iocb(0x6F, 0, 5);
-    allocate(0x6F, 5, 1, 0, 0);
-    assign(0x6F, 5, 9, 0, 0);
+    allocate(0x6F, 5, 1, 0, 0, 0);
+    assign(0x6F, 5, 9, 0, 0, 0);
     release(0x6F, 5, 0);
     erase(0x6F, 5);
     lend_null(DESK);
     rewind_of(1);
     iocb(0x6F, 0, 5);
     format(0x6F, 1);
-    allocate(0x6F, 5, 1, 0, 0);
-    assign(0x6F, 5, 9, 0, 0);
+    allocate(0x6F, 5, 1, 0, 0, 0);
+    assign(0x6F, 5, 9, 0, 0, 0);
     release(0x6F, 5, 0);
     erase(0x6F, 5);
     lend_null(BLOCK);

@@ -40,7 +40,7 @@ void modes(void)
                 want(DESK, 12, "01 00 0005 01 00 0000 00000000");
                 want_fill(DESK, 13, 1, (int)b);
             }
-            assign(good ? 0x00 : 0x0B, 5, 1, b, 0);
+            assign(good ? 0x00 : 0x0B, 5, 1, b, 0, 0);
             put(DESK, 12, "01 00 0005 01 00 0000 00000000"); /* a desk that has both fits only then */
             poke(DESK, 13, b);
             rewind_of(0);
@@ -54,27 +54,28 @@ void modes(void)
             want(DESK, 0, "01 00 0006 01 00 0000 00000000");
             want_fill(DESK, 1, 1, (int)a);
         }
-        assign(a < 2 ? 0x00 : 0x0B, 6, 0, a, 0);
+        assign(a < 2 ? 0x00 : 0x0B, 6, 0, a, 0, 0);
     }
 }
 
-/* Desk bytes of the form, of a desk that does not fit the volume: $6F, after the code and the area. */
+/* Desk bytes of the form, of a desk that does not fit the volume, in which Z has code 9: $6F, after the code of the block and the area. */
 static void no_fit(unsigned which, const char *twelve)
 {
     of(which, 0);
     house(8, 0);
+    poke(IMAGE, 0x257, 9);
     put(DESK, 180, twelve);
     rewind_of(1);
     iocb(0x6F, 0, 5);
     transfer(TWYNARVEL_READ, TWYNARVEL_NEXT, 0, 0, 9);
     iocb(0x84, 0, 5); /* the area is judged before */
     transfer(TWYNARVEL_READ, 0x8000, 0, 0, 9);
-    iocb(0x82, 0, 5); /* and so is the code */
+    iocb(0x82, 0, 5); /* and so is the code of the block */
     transfer(TWYNARVEL_READ, TWYNARVEL_NEXT, 0, 0, 8);
     iocb(0x6F, 0, 5);
-    allocate(0x6F, 5, 1, 0, 0);
+    allocate(0x6F, 5, 1, 0, 0, 0);
     name(FILE_X);
-    assign(0x6F, 5, 9, 0, 0);
+    assign(0x6F, 5, 9, 0, 0, 0);
     release(0x6F, 5, 15);
     erase(0x6F, 65534);
 }
@@ -95,6 +96,8 @@ void fitting(void)
     no_fit(11, "01 00 0005 00 04 0000 00000000");
     no_fit(12, "01 00 0005 00 02 0000 00000002");
     no_fit(13, "01 00 0005 00 11 0000 00000000"); /* 17 sectors at once */
+    no_fit(14, "01 00 0006 02 00 0000 00000000"); /* a reader without the right, by the code that the LUN keeps */
+    no_fit(15, "01 00 0006 02 01 0800 00000001");
 }
 
 /* Format: $6F for the length of the desk bytes, then $60. */
@@ -120,8 +123,8 @@ static void bad_name(unsigned which, size_t len, const char *hex)
     of(which, (unsigned)len);
     lend(NAME, len, 0);
     put(NAME, 0, hex);
-    allocate(0x64, 5, 2, 0, 0);
-    assign(0x64, 5, 9, 7, 0);
+    allocate(0x64, 5, 2, 0, 0, 0);
+    assign(0x64, 5, 9, 7, 0, 0);
     erase(0x64, 5);
 }
 
@@ -144,7 +147,9 @@ static void bad_names(void)
     bad_name(14, 20, "0005 0000000000000000 5820202020202020 4441");
 }
 
-/* Allocate: $6F (bytes), $6F, $03, $64, $02, $60, $0B, $66, $67, $63. */
+#define FILE_A5 "0000 2020202020202020 4135202020202020 4441" /* of user 0 */
+
+/* Allocate: $6F (bytes), $6F, $03, $64, $02, $60, $0B, $66, $67, $63. A file of user 0 with a code other than 0 is $60. */
 void order_of_allocate(void)
 {
     house(0, 0);
@@ -154,69 +159,97 @@ void order_of_allocate(void)
     put(IMAGE, 0x280, "01 00 0005 2020202020202020 4132202020202020 4441 0000 0000 000B 0001 0000");
     put(IMAGE, 0x2A0, "01 00 0005 2020202020202020 4133202020202020 4441 0000 0000 000C 0001 0000");
     put(IMAGE, 0x2C0, "01 00 0005 2020202020202020 4134202020202020 4441 0000 0000 000D 0001 0000");
-    put(IMAGE, 0x2E0, "01 00 0005 2020202020202020 4135202020202020 4441 0000 0000 000E 0001 0000");
+    put(IMAGE, 0x2E0, "01 00" FILE_A5 "0000 0000 000E 0001 0000");
     put(IMAGE, 0x101, "FF");
     check(TWYNARVEL_SOUND);
     spoil_desk(1);
     spoil_image(1);
     lend(NAME, 19, 0);
-    allocate(0x6F, 65534, 2, 3000, 3000);
+    allocate(0x6F, 65534, 2, 3000, 3000, 1);
     spoil_desk(0);
-    allocate(0x6F, 65534, 2, 3000, 3000);
+    allocate(0x6F, 65534, 2, 3000, 3000, 1);
     spoil_image(0);
-    allocate(0x03, 65534, 2, 3000, 3000);
-    allocate(0x64, 6, 2, 3000, 3000);
-    name(FILE_Y);
-    allocate(0x02, 6, 2, 3000, 3000);
-    allocate(0x60, 6, 0, 3000, 0);
-    allocate(0x60, 6, 0, 0, 0);
-    allocate(0x60, 6, 0, 2048, 1);
-    allocate(0x60, 6, 1, 1, 0);
-    allocate(0x60, 6, 1, 0, 1025);
-    allocate(0x0B, 6, 0, 2048, 0);
-    allocate(0x0B, 6, 1, 0, 1024);
-    allocate(0x66, 5, 0, 2048, 0);
+    allocate(0x03, 65534, 2, 3000, 3000, 1);
+    allocate(0x64, 6, 2, 3000, 3000, 1);
+    name(FILE_A5);
+    allocate(0x02, 6, 2, 3000, 3000, 1);
+    allocate(0x60, 6, 0, 2048, 0, 1); /* a file of user 0 with a code */
+    allocate(0x60, 6, 1, 0, 1024, 255);
+    allocate(0x60, 0, 0, 2048, 0, 1);
+    allocate(0x60, 6, 0, 2049, 0, 0);
+    allocate(0x0B, 6, 0, 2048, 0, 0);
+    allocate(0x66, 0, 0, 2048, 0, 0);
     name(FILE_NEW);
-    allocate(0x67, 5, 0, 2048, 0);
-    allocate(0x67, 5, 1, 0, 0);
+    poke(NAME, 1, 0); /* of user 0, a name that is not taken */
+    allocate(0x60, 0, 0, 2048, 0, 1);
+    allocate(0x67, 0, 0, 2048, 0, 0);
+    name(FILE_Y);
+    allocate(0x02, 6, 2, 3000, 3000, 1);
+    allocate(0x60, 6, 0, 3000, 0, 1);
+    allocate(0x60, 6, 0, 0, 0, 1);
+    allocate(0x60, 6, 0, 2048, 1, 1);
+    allocate(0x60, 6, 1, 1, 0, 1);
+    allocate(0x60, 6, 1, 0, 1025, 1);
+    allocate(0x0B, 6, 0, 2048, 0, 1);
+    allocate(0x0B, 6, 1, 0, 1024, 1);
+    allocate(0x66, 5, 0, 2048, 0, 1);
+    name(FILE_NEW);
+    allocate(0x67, 5, 0, 2048, 0, 1);
+    allocate(0x67, 5, 1, 0, 0, 1);
     put(IMAGE, 0x2C0, "01 00 0005 2020202020202020 4134202020202020 4441 0000 0000 000D 0002 0000");
     want_fill(IMAGE, 0x2E0, 32, 0); /* slot 7 is unused, and no sector is free */
     put(IMAGE, 0x2E0, "00");
-    allocate(0x63, 5, 0, 1, 0);
-    allocate(0x63, 5, 1, 0, 0);
+    poke(NAME, 1, 0); /* of user 0 */
+    allocate(0x60, 0, 0, 1, 0, 1);
+    allocate(0x63, 0, 0, 1, 0, 0);
+    name(FILE_NEW);
+    allocate(0x63, 5, 0, 1, 0, 1);
+    allocate(0x63, 5, 1, 0, 0, 1);
     put(IMAGE, 0x2C0, "01 00 0005 2020202020202020 4134202020202020 4441 0000 0000 000D 0001 0000");
     put(IMAGE, 0x101, "FD"); /* one is */
-    allocate(0x63, 5, 0, 2, 0);
-    want(IMAGE, 0x2E0, "01 00" FILE_NEW "0000 0000 000E 0001 0000");
+    allocate(0x63, 5, 0, 2, 0, 1);
+    want(IMAGE, 0x2E0, "01 00" FILE_NEW "0001 0000 000E 0001 0000");
     want(IMAGE, 0x101, "FF");
-    allocate(0x00, 5, 0, 1, 0);
+    allocate(0x00, 5, 0, 1, 0, 1);
 }
 
-/* Assign: $6F (bytes), $6F, $03, $02, $64, $17, $0B. */
+/* Assign: $6F (bytes), $6F, $03, $02, $64, $17, $07, $0B. Y has code 9, which LUN 4 keeps. */
 void order_of_assign(void)
 {
     rule("order: assign");
     house(0, 0);
+    poke(IMAGE, 0x237, 9);
+    poke(DESK, 48 + 6, 9);
     spoil_desk(1);
     spoil_image(1);
     lend(NAME, 21, 0);
-    assign(0x6F, 65534, 16, 8, 0);
+    assign(0x6F, 65534, 16, 8, 0, 8);
     spoil_desk(0);
-    assign(0x6F, 65534, 16, 8, 0);
+    assign(0x6F, 65534, 16, 8, 0, 8);
     spoil_image(0);
-    assign(0x03, 65534, 9, 8, 0); /* caller */
-    assign(0x03, 6, 16, 8, 0);    /* LUN above 15 */
-    assign(0x03, 6, 0, 8, 0);     /* held by another */
-    assign(0x03, 6, 4, 8, 0);     /* held by the caller */
-    assign(0x02, 6, 9, 8, 0);
-    assign(0x64, 6, 9, 7, 0);
+    assign(0x03, 65534, 9, 8, 0, 8); /* caller */
+    assign(0x03, 6, 16, 8, 0, 8);    /* LUN above 15 */
+    assign(0x03, 6, 0, 8, 0, 8);     /* held by another */
+    assign(0x03, 6, 4, 8, 0, 8);     /* held by the caller */
+    assign(0x02, 6, 9, 8, 0, 8);
+    name(FILE_Y); /* also of a file that is there */
+    assign(0x03, 6, 4, 8, 0, 8);
+    assign(0x02, 6, 9, 8, 0, 8);
+    lend(NAME, 21, 0);
+    assign(0x64, 6, 9, 7, 0, 8);
     name(FILE_NEW);
-    assign(0x17, 6, 9, 7, 0);
+    assign(0x17, 6, 9, 7, 0, 8);
     name(FILE_Y);
-    assign(0x0B, 6, 9, 7, 0); /* no right */
-    assign(0x0B, 5, 9, 7, 0); /* EREW stands beside nothing */
-    want(DESK, 108, "01 00 0005 01 00 0000 00000000");
-    assign(0x00, 5, 9, 0, 0);
+    assign(0x07, 6, 9, 7, 0, 8); /* another code; no right; EREW stands beside nothing */
+    assign(0x0B, 6, 9, 7, 0, 9); /* no right */
+    assign(0x07, 6, 9, 1, 0, 8); /* another code; ER clashes with LUN 0 and LUN 4 */
+    assign(0x0B, 6, 9, 1, 0, 9);
+    assign(0x0B, 6, 9, 2, 0, 8); /* no right; PW reads nothing, and no code is asked for */
+    assign(0x0B, 6, 9, 3, 0, 8);
+    assign(0x0B, 5, 9, 7, 0, 8); /* the owner needs no code; EREW stands beside nothing */
+    assign(0x0B, 0, 9, 7, 0, 8);
+    want(DESK, 108, "01 00 0005 01 00 0800 00000000");
+    assign(0x00, 5, 9, 0, 0, 8);
 }
 
 /* Close: $6F (bytes), $6F, $03. User 0 may use no other user's LUN. */

@@ -1,11 +1,11 @@
-/* Codes, options, selectors, and the parts of the two areas. */
+/* Request codes, options, selectors, and the parts of the two areas. */
 #include "check.h"
 
 /*
  * "Request code $00 with function $01 read, $02 write, $08 update; request code $01 with function $02 rewind": all 65,536 pairs. The area is
  * bad, so that a supported transfer is $84. Rewind does not look at it; LUN 1 is Fresh, so that nothing changes.
  */
-void codes(void)
+void request_codes(void)
 {
     unsigned code, function;
     house(8, 8);

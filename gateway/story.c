@@ -30,19 +30,19 @@ void story(void)
     name(FILE_X);
     want(IMAGE, 0x200, "01 00" FILE_X "0000 0000 0003 0003 0000");
     want(IMAGE, 0x100, "FC");
-    allocate(0x00, 5, TWYNARVEL_CONTIGUOUS, 3, 0);
+    allocate(0x00, 5, TWYNARVEL_CONTIGUOUS, 3, 0, 0);
     check_free(9);
 
     rule("story: 3, allocate a variable sequential file");
     name(FILE_Y);
     want(IMAGE, 0x220, "01 01" FILE_Y "0000 0000 0006 0000 0000");
     want(IMAGE, 0x100, "FE");
-    allocate(0x00, 5, TWYNARVEL_SEQUENTIAL, 0, 0);
+    allocate(0x00, 5, TWYNARVEL_SEQUENTIAL, 0, 0, 0);
     check_free(8);
 
     rule("story: 4, append ABC");
     want(DESK, 0, "01 04 0005 01 00 0000 00000000");
-    assign(0x00, 5, 0, TWYNARVEL_PRPW, TWYNARVEL_AT_START);
+    assign(0x00, 5, 0, TWYNARVEL_PRPW, TWYNARVEL_AT_START, 0);
     put(TASK, 0, "414243");
     transfer(TWYNARVEL_WRITE, TWYNARVEL_NEXT, 0, 0, 3);
     want(IMAGE, 0x600, "0001 0001 00000006 0007 0001");
@@ -78,11 +78,11 @@ void story(void)
     name(FILE_NEW);
     want(IMAGE, 0x200, "01 00" FILE_NEW "0000 0000 0008 0007 0000");
     want(IMAGE, 0x100, "F3 FF");
-    allocate(0x00, 5, TWYNARVEL_CONTIGUOUS, 7, 0);
+    allocate(0x00, 5, TWYNARVEL_CONTIGUOUS, 7, 0, 0);
     check_free(2);
     mark(1);
     back(0);
-    allocate(0x63, 5, TWYNARVEL_CONTIGUOUS, 8, 0);
+    allocate(0x63, 5, TWYNARVEL_CONTIGUOUS, 8, 0, 0);
     check_free(9);
 
     rule("story: 8, record 3, record 1, four bytes over three");
@@ -392,13 +392,13 @@ void places(void)
         house(8, 0);
         name(FILE_Y);
         want(DESK, 60, "01 04 0005 01 01 0000 00000004");
-        assign(0x00, 5, 5, TWYNARVEL_PRPW, ends[k]);
+        assign(0x00, 5, 5, TWYNARVEL_PRPW, ends[k], 0);
         name(FILE_X);
         want(DESK, 72, "01 02 0000 00 01 0000 00000002");
-        assign(0x00, 0, 6, TWYNARVEL_PW, ends[k]); /* user 0 has the right to every file */
+        assign(0x00, 0, 6, TWYNARVEL_PW, ends[k], 0); /* user 0 has the right to every file */
         name(FILE_Z);
         want(DESK, 180, "01 00 FFFD 02 00 0000 00000000");
-        assign(0x00, 65533, 15, TWYNARVEL_PR, ends[k]); /* a mode that does not write: Fresh */
+        assign(0x00, 65533, 15, TWYNARVEL_PR, ends[k], 0); /* a mode that does not write: Fresh */
     }
     rule("places above 255");
     house(1, 0);
@@ -412,42 +412,42 @@ void places(void)
     iocb(0x00, 1, 5);
     name(FILE_Z);
     want(DESK, 180, "01 04 0005 02 01 0000 000001FF");
-    assign(0x00, 5, 15, TWYNARVEL_PRPW, TWYNARVEL_AT_END);
+    assign(0x00, 5, 15, TWYNARVEL_PRPW, TWYNARVEL_AT_END, 0);
     transfer(TWYNARVEL_READ, TWYNARVEL_NEXT, 15, 0, 1);
     iocb(0xC2, 0, 5);
     rule("at the start");
     house(8, 0);
     name(FILE_Y);
     want(DESK, 60, "01 04 0005 01 00 0000 00000000");
-    assign(0x00, 5, 5, TWYNARVEL_PRPW, TWYNARVEL_AT_START);
+    assign(0x00, 5, 5, TWYNARVEL_PRPW, TWYNARVEL_AT_START, 0);
     rule("at the end of a file with no record");
     house(8, 0);
     want(IMAGE, 0x260, "01 01" FILE_NEW "0000 0400 000A 0000 0000"); /* record length 1,024, access block 10 */
     want(IMAGE, 0x101, "E1");
-    allocate(0x00, 0, TWYNARVEL_SEQUENTIAL, 0, 1024);
+    allocate(0x00, 0, TWYNARVEL_SEQUENTIAL, 0, 1024, 0);
     want(DESK, 60, "01 07 0005 03 00 0000 00000000");
-    assign(0x00, 5, 5, TWYNARVEL_EREW, TWYNARVEL_AT_END);
+    assign(0x00, 5, 5, TWYNARVEL_EREW, TWYNARVEL_AT_END, 0);
     rule("numbers are not cut to fewer bits");
     house(8, 0);
     name(FILE_X);
-    assign(0x03, 5, 16, 0, 0);
-    assign(0x03, 5, 256 + 9, 0, 0);
-    assign(0x03, 65536 + 5, 9, 0, 0);
-    assign(0x02, 5, 9, 8, 0);
-    assign(0x02, 5, 9, 256, 0);
+    assign(0x03, 5, 16, 0, 0, 0);
+    assign(0x03, 5, 256 + 9, 0, 0, 0);
+    assign(0x03, 65536 + 5, 9, 0, 0, 0);
+    assign(0x02, 5, 9, 8, 0, 0);
+    assign(0x02, 5, 9, 256, 0, 0);
     release(0x03, 5, 256);
     release(0x03, 65536 + 5, 0);
     erase(0x03, 65536 + 5);
     name(FILE_NEW);
-    allocate(0x02, 5, 2, 1, 0);
-    allocate(0x02, 5, 256, 1, 0);
-    allocate(0x60, 5, 0, 65536 + 1, 0);
-    allocate(0x60, 5, 0, 1, 65536);
-    allocate(0x60, 5, 1, 65536, 0);
-    allocate(0x60, 5, 1, 0, 65536);
-    allocate(0x60, 5, 1, 0, 1025);
-    allocate(0x60, 5, 0, 2049, 0);
-    allocate(0x63, 5, 0, 2048, 0);
+    allocate(0x02, 5, 2, 1, 0, 0);
+    allocate(0x02, 5, 256, 1, 0, 0);
+    allocate(0x60, 5, 0, 65536 + 1, 0, 0);
+    allocate(0x60, 5, 0, 1, 65536, 0);
+    allocate(0x60, 5, 1, 65536, 0, 0);
+    allocate(0x60, 5, 1, 0, 65536, 0);
+    allocate(0x60, 5, 1, 0, 1025, 0);
+    allocate(0x60, 5, 0, 2049, 0, 0);
+    allocate(0x63, 5, 0, 2048, 0, 0);
     rewind_of(16);
     iocb(0x03, 0, 5);
     rewind_of(255);
@@ -532,6 +532,7 @@ static int entry_byte(unsigned byte, unsigned v)
     case 12: return letter && v != 'X' && v != 'Z'; /* those two names are taken */
     case 13: case 21: return letter || digit || space;
     case 20: return letter;
+    case 23: return 1; /* the read-protect code of a file of user 5 */
     case 25: return v == 0 || v == 1 || v == 2 || v == 11 || v == 22; /* fixed records: E = 22 is a multiple of L */
     case 27: return v == 6;
     default: return byte < 20 ? space : v == 0; /* catalog and filename after a space; bytes that are zero */
@@ -590,8 +591,8 @@ static void other_lengths(void)
         iocb(0x6F, 0, 5);
         transfer(TWYNARVEL_WRITE, TWYNARVEL_NEXT, 0, 0, 8);
         iocb(0x6F, 0, 5);
-        allocate(0x6F, 65534, 1, 0, 0);
-        assign(0x6F, 65534, 9, 0, 0);
+        allocate(0x6F, 65534, 1, 0, 0, 0);
+        assign(0x6F, 65534, 9, 0, 0, 0);
         release(0x6F, 65534, 0);
         erase(0x6F, 65534);
     }

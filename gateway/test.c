@@ -6,29 +6,34 @@
 
 int printf(const char *text, ...);
 
-int first_record(uint8_t *image, size_t size, const uint8_t *file, uint8_t *buffer, uint32_t user); /* example.c */
+int first_record(uint8_t *image, size_t size, const uint8_t *file, uint8_t code, uint8_t *buffer, uint32_t user); /* example.c */
 
-/* The lines of the README: they read the first record of Y. */
+/* The lines of the README: they read the first record of Y, which has a code other than 0. */
 static void example(void)
 {
     house(TWYNARVEL_RECORD_BYTES, 0);
     rule("README: reading a record");
+    poke(IMAGE, 0x237, 42);
     name(FILE_Y);
+    compare("first_record", (uint32_t)-1, (uint32_t)first_record(LENT(IMAGE), area[NAME].at, 41, area[TASK].at, 6));
     want(TASK, 0, "414243");
-    compare("first_record", 3, (uint32_t)first_record(LENT(IMAGE), area[NAME].at, area[TASK].at, 5));
+    compare("first_record", 3, (uint32_t)first_record(LENT(IMAGE), area[NAME].at, 42, area[TASK].at, 6));
+    lend(TASK, TWYNARVEL_RECORD_BYTES, 0xEE);
+    want(TASK, 0, "414243");
+    compare("first_record", 3, (uint32_t)first_record(LENT(IMAGE), area[NAME].at, 0, area[TASK].at, 5));
     name(FILE_NEW);
-    compare("first_record", (uint32_t)-1, (uint32_t)first_record(LENT(IMAGE), area[NAME].at, area[TASK].at, 5));
+    compare("first_record", (uint32_t)-1, (uint32_t)first_record(LENT(IMAGE), area[NAME].at, 42, area[TASK].at, 5));
 }
 
 /* The header's names, against the status table, Figure 3-1 and Tables 3-1 to 3-6. The other sections use the numbers. */
 static void names(void)
 {
     static const uint32_t pairs[][2] = {
-        {TWYNARVEL_DONE, 0x00}, {TWYNARVEL_UNKNOWN_TYPE, 0x02}, {TWYNARVEL_BAD_LUN, 0x03}, {TWYNARVEL_NO_RIGHT, 0x0B},
-        {TWYNARVEL_IN_USE, 0x0D}, {TWYNARVEL_NO_FILE, 0x17}, {TWYNARVEL_OUT_OF_RANGE, 0x60}, {TWYNARVEL_OTHER_LENGTH, 0x61},
-        {TWYNARVEL_EXISTS, 0x62}, {TWYNARVEL_NO_ROOM, 0x63}, {TWYNARVEL_BAD_DESCRIPTOR, 0x64}, {TWYNARVEL_NO_SEGMENT, 0x65},
-        {TWYNARVEL_NAME_TAKEN, 0x66}, {TWYNARVEL_DIRECTORY_FULL, 0x67}, {TWYNARVEL_NOT_SOUND, 0x6F}, {TWYNARVEL_BAD_REQUEST, 0x82},
-        {TWYNARVEL_BAD_LENGTH, 0x84}, {TWYNARVEL_PAST_END, 0xC2}, {TWYNARVEL_SOUND, 65536},
+        {TWYNARVEL_DONE, 0x00}, {TWYNARVEL_UNKNOWN_TYPE, 0x02}, {TWYNARVEL_BAD_LUN, 0x03}, {TWYNARVEL_WRONG_CODE, 0x07},
+        {TWYNARVEL_NO_RIGHT, 0x0B}, {TWYNARVEL_IN_USE, 0x0D}, {TWYNARVEL_NO_FILE, 0x17}, {TWYNARVEL_OUT_OF_RANGE, 0x60},
+        {TWYNARVEL_OTHER_LENGTH, 0x61}, {TWYNARVEL_EXISTS, 0x62}, {TWYNARVEL_NO_ROOM, 0x63}, {TWYNARVEL_BAD_DESCRIPTOR, 0x64},
+        {TWYNARVEL_NO_SEGMENT, 0x65}, {TWYNARVEL_NAME_TAKEN, 0x66}, {TWYNARVEL_DIRECTORY_FULL, 0x67}, {TWYNARVEL_NOT_SOUND, 0x6F},
+        {TWYNARVEL_BAD_REQUEST, 0x82}, {TWYNARVEL_BAD_LENGTH, 0x84}, {TWYNARVEL_PAST_END, 0xC2}, {TWYNARVEL_SOUND, 65536},
         {TWYNARVEL_SECTOR_BYTES, 256}, {TWYNARVEL_ID_BYTES, 4}, {TWYNARVEL_DESCRIPTOR_BYTES, 20}, {TWYNARVEL_RECORD_BYTES, 1024},
         {TWYNARVEL_TRANSFER_BYTES, 4096}, {TWYNARVEL_BLOCK_BYTES, 28}, {TWYNARVEL_DESK_BYTES, 192}, {TWYNARVEL_LUN_BYTES, 12},
         {TWYNARVEL_CONTIGUOUS, 0}, {TWYNARVEL_SEQUENTIAL, 1}, {TWYNARVEL_PR, 0}, {TWYNARVEL_ER, 1}, {TWYNARVEL_PW, 2}, {TWYNARVEL_EW, 3},
@@ -52,9 +57,10 @@ static void names(void)
 int main(void)
 {
     static void (*const sections[])(void) = {
-        names, example, block_lengths, desk_lengths, desk_forms, null_pointers, codes, options, selectors, parts, far_parts, sent_parts, story,
-        texts, sectors, fixed, places, formats, soundness, modes, fitting, order_of_format, order_of_allocate, order_of_assign, order_of_close,
-        order_of_delete, order_of_rewind, order_of_read, order_of_write, order_of_update, order_of_segments};
+        names, example, block_lengths, desk_lengths, desk_forms, null_pointers, request_codes, options, selectors, parts, far_parts, sent_parts,
+        story, texts, sectors, fixed, places, formats, soundness, modes, fitting, entry_codes, new_codes, offered_codes, kept_codes,
+        reads_by_code, private_file, order_of_format, order_of_allocate, order_of_assign, order_of_close, order_of_delete, order_of_rewind,
+        order_of_read, order_of_write, order_of_update, order_of_segments};
     size_t k;
     prepare();
     for (after_fence = 0; after_fence < 2; after_fence++)

@@ -33,10 +33,11 @@ extern "C" {
 #define TWYNARVEL_DONE 0x00            /* carried out */
 #define TWYNARVEL_UNKNOWN_TYPE 0x02    /* no such file type or mode */
 #define TWYNARVEL_BAD_LUN 0x03         /* caller above 65,533; LUN above 15, free, held, or another user's */
+#define TWYNARVEL_WRONG_CODE 0x07      /* the caller has no right to read the file: another read-protect code than its own was offered */
 #define TWYNARVEL_NO_RIGHT 0x0B        /* the caller has no right to the file, or the modes clash */
 #define TWYNARVEL_IN_USE 0x0D          /* a LUN holds the file that was to be deleted */
 #define TWYNARVEL_NO_FILE 0x17         /* no such file */
-#define TWYNARVEL_OUT_OF_RANGE 0x60    /* a number of format or allocate out of range, or a bad volume ID */
+#define TWYNARVEL_OUT_OF_RANGE 0x60    /* a number of format or allocate out of range, a code for a file of user 0, or a bad volume ID */
 #define TWYNARVEL_OTHER_LENGTH 0x61    /* update by another length than the record's */
 #define TWYNARVEL_EXISTS 0x62          /* write of a record that is there */
 #define TWYNARVEL_NO_ROOM 0x63         /* too few free sectors, or no run of them */
@@ -75,6 +76,12 @@ extern "C" {
 #define TWYNARVEL_PREW 5
 #define TWYNARVEL_ERPW 6
 #define TWYNARVEL_EREW 7
+
+/*
+ * Read-protect codes. Each file has one, a byte: twynarvel_allocate gives it, and it stays as long as the file. A file of code 0 is read by
+ * every user. A file of another code is read by its owner, who is the user of its descriptor, by user 0, and by whoever offers that code to
+ * twynarvel_assign. A code gives no right to write. Files of user 0 have code 0.
+ */
 
 /* Where an assignment starts. */
 #define TWYNARVEL_AT_START 0
@@ -123,9 +130,10 @@ extern "C" {
 
 /*
  * The desk bytes: twelve for each LUN, from LUN 0 on. The caller keeps them from call to call and has no need to look into them.
- * Of a held LUN: byte 0 is 1; 1 the mode, 0 to 7; 2-3 the user; 4 the directory slot; 5 n, how many records or sectors were moved last; 6-7
- * zero; 8-11 i, the first of them. n and i are zero if nothing was moved yet. A free LUN is twelve zeros. Desk bytes of another length or
- * form are bad.
+ * Of a held LUN: byte 0 is 1; 1 the mode, 0 to 7; 2-3 the user; 4 the directory slot; 5 n, how many records or sectors were moved last; 6
+ * the read-protect code that was offered; 7 zero; 8-11 i, the first of them. n and i are zero if nothing was moved yet. A free LUN is twelve
+ * zeros. Desk bytes of another length or form are bad. A LUN that reads has to have the right to read, by the code in byte 6: else the desk
+ * does not fit the volume.
  */
 
 /*
@@ -185,13 +193,15 @@ uint32_t twynarvel_check(const uint8_t *image, size_t image_len);
 /*
  * Makes a file. A contiguous file gets its sectors, zero-filled. A sequential one starts with no record.
  *
- * image    the volume. Written if the call is accepted.
- * desk     the desk bytes. They are judged, and not written.
- * caller   the user who asks: the descriptor's user, or user 0.
- * desc     the descriptor, 20 bytes.
- * kind     TWYNARVEL_CONTIGUOUS or TWYNARVEL_SEQUENTIAL.
- * size     sectors of a contiguous file, 1 to 2,048; 0 for a sequential one.
- * record   0 for a contiguous file; for a sequential one 0 (variable records) or the length of each record, 1 to 1,024.
+ * image      the volume. Written if the call is accepted.
+ * desk       the desk bytes. They are judged, and not written.
+ * caller     the user who asks: the descriptor's user, or user 0.
+ * desc       the descriptor, 20 bytes.
+ * kind       TWYNARVEL_CONTIGUOUS or TWYNARVEL_SEQUENTIAL.
+ * size       sectors of a contiguous file, 1 to 2,048; 0 for a sequential one.
+ * record     0 for a contiguous file; for a sequential one 0 (variable records) or the length of each record, 1 to 1,024.
+ * read_code  the read-protect code, 0 to 255: what other users have to offer to read the file. 0 for a file that every user may read, and
+ *            for each file of user 0.
  *
  * Returns the status number. Refusals, the first that applies:
  *   0x6F  the desk bytes are bad
@@ -199,14 +209,14 @@ uint32_t twynarvel_check(const uint8_t *image, size_t image_len);
  *   0x03  the caller is above 65,533
  *   0x64  the descriptor is bad
  *   0x02  the file type is unknown
- *   0x60  size or record length is out of range
+ *   0x60  size or record length is out of range, or the descriptor's user is 0 and the code is not
  *   0x0B  the caller has no right to files of that user
  *   0x66  the name is taken
  *   0x67  the directory is full
  *   0x63  there is no free run of that size, or no free sector
  */
 uint32_t twynarvel_allocate(uint8_t *image, size_t image_len, const uint8_t *desk, size_t desk_len, uint32_t caller, const uint8_t *desc,
-                            size_t desc_len, uint32_t kind, uint32_t size, uint32_t record);
+                            size_t desc_len, uint32_t kind, uint32_t size, uint32_t record, uint8_t read_code);
 
 /*
  * Gives a file to a free LUN.
@@ -218,6 +228,8 @@ uint32_t twynarvel_allocate(uint8_t *image, size_t image_len, const uint8_t *des
  * desc     the descriptor, 20 bytes.
  * mode     TWYNARVEL_PR to TWYNARVEL_EREW.
  * at_end   0 for the file's start; any other number for its end, which counts only in a mode that writes.
+ * offered  the read-protect code that the caller offers, 0 to 255; the LUN keeps it. The file's owner and user 0 may offer any, and so may
+ *          whoever assigns a file of code 0, or in a mode that does not read.
  *
  * Returns the status number. Refusals, the first that applies:
  *   0x6F  the desk bytes are bad
@@ -226,10 +238,11 @@ uint32_t twynarvel_allocate(uint8_t *image, size_t image_len, const uint8_t *des
  *   0x02  the mode is unknown
  *   0x64  the descriptor is bad
  *   0x17  there is no such file
+ *   0x07  the mode reads, the file's code is neither 0 nor the one offered, and the caller is neither the file's owner nor user 0
  *   0x0B  the mode writes and the caller has no right to the file, or it clashes with another LUN's mode
  */
 uint32_t twynarvel_assign(const uint8_t *image, size_t image_len, uint8_t *desk, size_t desk_len, uint32_t caller, uint32_t lun,
-                          const uint8_t *desc, size_t desc_len, uint32_t mode, uint32_t at_end);
+                          const uint8_t *desc, size_t desc_len, uint32_t mode, uint32_t at_end, uint8_t offered);
 
 /*
  * Frees a LUN.

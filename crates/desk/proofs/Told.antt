@@ -50,14 +50,14 @@ module _ (img : List ℕ) (d : Desk) (w : Worked) where
   unfolding formatDeed step rules done given
   format-told img′ id n e = ap (answeredBy d emptyDesk) e ∙ quiet-told d emptyDesk (formatRules img id n) img (formatted id n (sectors img))
 
-  pub allocate-told : (caller : ℕ) (p : Layout) → begunOf (state img d) (leb caller lastUser) ≡ begun.At p → (img′ desc : List ℕ) (k n l : ℕ)
-      → deed w img′ [] ≡ allocateDeed img caller desc k n l
-      → outcome (answered d d w .answer) img′ (answered d d w .desk) [] ≡ step (Allocate caller desc k n l) (state img d)
+  pub allocate-told : (caller : ℕ) (p : Layout) → begunOf (state img d) (leb caller lastUser) ≡ begun.At p → (img′ desc : List ℕ) (k n l rc : ℕ)
+      → deed w img′ [] ≡ allocateDeed img caller desc k n l rc
+      → outcome (answered d d w .answer) img′ (answered d d w .desk) [] ≡ step (Allocate caller desc k n l rc) (state img d)
   unfolding allocateDeed step rules done given
-  allocate-told caller p b img′ desc k n l e =
+  allocate-told caller p b img′ desc k n l rc e =
       ap (answeredBy d d) e
-      ∙ quiet-told d d (allocateRules img caller desc k n l) img (newFile img desc k n l)
-      ∙ sym (begun-left (state img d) (leb caller lastUser) p b (allocateRules img caller desc k n l) [] _)
+      ∙ quiet-told d d (allocateRules img caller desc k n l rc) img (newFile img desc k n l rc)
+      ∙ sym (begun-left (state img d) (leb caller lastUser) p b (allocateRules img caller desc k n l rc) [] _)
 
   -- the transfers
   module _ (caller lun sel num : ℕ) (fmt : Bool) (a : Aim) where

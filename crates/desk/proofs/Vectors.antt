@@ -44,13 +44,13 @@ played : List Call → Outcome → List (List ℕ)
 played [] o = told o ∷ []
 played (c ∷ cs) o = told o ∷ played cs (step c (state (o .image) (o .desk)))
 
--- A refused read at the end leaves the place and the buffer; an update of another length is refused; user 6 may read and not write,
--- and closes no LUN of user 5; a file that is held is not deleted
+-- A refused read at the end leaves the place and the buffer; an update of another length is refused; user 6 may read with the code and
+-- not write, and closes no LUN of user 5; a file that is held is not deleted
 story : List (List ℕ)
 story =
     played
-    (Allocate 5 desc 1 0 0
-    ∷ Assign 5 0 desc 4 true
+    (Allocate 5 desc 1 0 0 7
+    ∷ Assign 5 0 desc 4 true 0
     ∷ Write 5 0 0 0 false (0x41 ∷ 0x42 ∷ 0x43 ∷ [])
     ∷ Read 5 0 1 0 false (1 ∷ 2 ∷ 3 ∷ 4 ∷ [])
     ∷ Read 5 0 0 0 false (1 ∷ 2 ∷ 3 ∷ 4 ∷ [])
@@ -59,8 +59,11 @@ story =
     ∷ Update 5 0 1 0 false (7 ∷ 8 ∷ 9 ∷ [])
     ∷ Rewind 5 0
     ∷ Read 5 0 0 0 false (1 ∷ 2 ∷ 3 ∷ [])
-    ∷ Assign 6 1 desc 2 false
-    ∷ Assign 6 1 desc 0 false
+    ∷ Assign 6 1 desc 2 false 0
+    ∷ Assign 6 1 desc 4 false 0
+    ∷ Assign 6 1 desc 4 false 7
+    ∷ Assign 6 1 desc 0 false 8
+    ∷ Assign 6 1 desc 0 false 7
     ∷ Close 6 0
     ∷ Delete 5 desc
     ∷ [])
@@ -79,6 +82,9 @@ story-told : story ≡
     ∷ (0 ∷ 0 ∷ [])
     ∷ (0 ∷ 3 ∷ 0 ∷ 1 ∷ 7 ∷ 8 ∷ 9 ∷ [])
     ∷ (0x0B ∷ 0 ∷ 0 ∷ 1 ∷ [])
+    ∷ (0x07 ∷ 0 ∷ 0 ∷ 1 ∷ [])
+    ∷ (0x0B ∷ 0 ∷ 0 ∷ 1 ∷ [])
+    ∷ (0x07 ∷ 0 ∷ 0 ∷ 1 ∷ [])
     ∷ (0 ∷ 0 ∷ 0 ∷ 1 ∷ [])
     ∷ (0x03 ∷ 0 ∷ 0 ∷ 1 ∷ [])
     ∷ (0x0D ∷ 0 ∷ 0 ∷ 1 ∷ [])

@@ -18,12 +18,12 @@ use Rattle.files.specs.Files.{extent, sound}
 use Rattle.files.specs.Rights.{hasRight}
 use Rattle.files.specs.Changes.{deleted}
 use Rattle.luns.specs.declared.Mode.{Mode}
-use Rattle.luns.specs.Luns.{placeless, agree, isHeld, movedTo, freeLun}
+use Rattle.luns.specs.Luns.{placeless, agree, isHeld, movedTo, freeLun, readsByRight}
 use Rattle.luns.specs.declared.Place.{Place}
 use Rattle.luns.specs.declared.Place.the-variants.{Fresh, At}
 use Rattle.luns.specs.Modes.{writes, modeOf, reads}
 use Rattle.luns.specs.declared.Lun.{Lun}
-use Rattle.work.specs.declared.Refusal.the-variants.{BadLun, NotSound, BadRequest, NoRight, UnknownType, InUse}
+use Rattle.work.specs.declared.Refusal.the-variants.{BadLun, NotSound, BadRequest, WrongCode, NoRight, UnknownType, InUse}
 use Rattle.work.specs.Refusals.{Rule, _if_}
 use Rattle.work.specs.Volumes.{slotOf, namedRules, formatRules, allocateRules, newFile}
 use Rattle.work.specs.Transfers.{readRules, writeRules, updateRules, Moving, reading, writing, updating, units}
@@ -33,12 +33,12 @@ use Rattle.desk.specs.declared.Report.the-variants.{Moved, Checked}
 use Rattle.desk.specs.Answers.{Change, Outcome, judged, outcome}
 use Rattle.desk.specs.declared.Answer.{Answer}
 
--- Any numbers, any bytes, any lengths
+-- Any numbers, any bytes, any lengths; rc is a new file's read-protect code, `offered` the one that an assign offers
 pub data Call : Type 0 where
   Format : (id : List ℕ) (dirs : ℕ) → Call
   Check : Call
-  Allocate : (caller : ℕ) (desc : List ℕ) (kind size long : ℕ) → Call
-  Assign : (caller lun : ℕ) (desc : List ℕ) (mode : ℕ) (end : Bool) → Call
+  Allocate : (caller : ℕ) (desc : List ℕ) (kind size long rc : ℕ) → Call
+  Assign : (caller lun : ℕ) (desc : List ℕ) (mode : ℕ) (end : Bool) (offered : ℕ) → Call
   Close Rewind : (caller lun : ℕ) → Call
   Delete : (caller : ℕ) (desc : List ℕ) → Call
   Read : (caller lun sel num : ℕ) (formatted : Bool) (buffer : List ℕ) → Call
@@ -59,23 +59,26 @@ unfoldable pub startOf : List ℕ → List ℕ → Mode → Bool → Place
 startOf img e m end = if end and writes m and leb 1 (extent img e) then At (extent img e - 1) 1 else Fresh
 
 -- RULES, Assign: the LUN that an assignment of the file in a slot makes
-unfoldable pub seatOf : List ℕ → ℕ → ℕ → Mode → Bool → Lun
-seatOf img caller slot m end =
-    record { held = true; user = caller; slot = slot; mode = m; place = startOf img (entryAt img slot) m end }
+unfoldable pub seatOf : List ℕ → ℕ → ℕ → Mode → Bool → ℕ → Lun
+seatOf img caller slot m end offered =
+    record { held = true; user = caller; slot = slot; mode = m; offered = offered; place = startOf img (entryAt img slot) m end }
 
--- RULES, Status numbers: $0B of assign
-unfoldable pub seatRules : Desk → ℕ → ℕ → Lun → List Rule
-seatRules d caller user u = NoRight if (writes (u .mode) and not (hasRight caller user) or not (all (agree u) (d .luns))) ∷ []
+-- RULES, Status numbers: $07 and $0B of assign
+unfoldable pub seatRules : State → ℕ → ℕ → Lun → List Rule
+seatRules s caller user u =
+    WrongCode if not (readsByRight (s .image) u)
+    ∷ NoRight if (writes (u .mode) and not (hasRight caller user) or not (all (agree u) (s .desk .luns)))
+    ∷ []
 
-unfoldable pub newLun : List ℕ → ℕ → List ℕ → ℕ → Bool → Lun
-newLun img caller desc mode end = seatOf img caller (slotOf img desc) (modeOf mode) end
+unfoldable pub newLun : List ℕ → ℕ → List ℕ → ℕ → Bool → ℕ → Lun
+newLun img caller desc mode end offered = seatOf img caller (slotOf img desc) (modeOf mode) end offered
 
--- RULES, Orders of refusals: assign: $6F, $03, $02, $64, $17, $0B
-unfoldable pub assignRules : State → ℕ → ℕ → List ℕ → ℕ → Bool → List Rule
-assignRules s caller lun desc mode end =
+-- RULES, Orders of refusals: assign: $6F, $03, $02, $64, $17, $07, $0B
+unfoldable pub assignRules : State → ℕ → ℕ → List ℕ → ℕ → Bool → ℕ → List Rule
+assignRules s caller lun desc mode end offered =
     beginRules s (spare (s .desk) caller lun)
     ++ (UnknownType if ltb 7 mode
-    ∷ (namedRules (s .image) desc ++ seatRules (s .desk) caller (userOf desc) (newLun (s .image) caller desc mode end)))
+    ∷ (namedRules (s .image) desc ++ seatRules s caller (userOf desc) (newLun (s .image) caller desc mode end offered)))
 
 -- RULES, Orders of refusals: delete: $6F, $03, $64, $17, $0B, $0D
 unfoldable pub removeRules : Desk → ℕ → ℕ → ℕ → List Rule
@@ -96,8 +99,8 @@ deleteRules s caller desc =
 unfoldable pub rules : Call → State → List Rule
 rules (Format id n) s = formatRules (s .image) id n
 rules Check s = []
-rules (Allocate caller desc k n l) s = beginRules s (leb caller lastUser) ++ allocateRules (s .image) caller desc k n l
-rules (Assign caller lun desc mode end) s = assignRules s caller lun desc mode end
+rules (Allocate caller desc k n l rc) s = beginRules s (leb caller lastUser) ++ allocateRules (s .image) caller desc k n l rc
+rules (Assign caller lun desc mode end offered) s = assignRules s caller lun desc mode end offered
 rules (Close caller lun) s = beginRules s (mine (s .desk) caller lun)
 rules (Rewind caller lun) s = beginRules s (mine (s .desk) caller lun)
 rules (Delete caller desc) s = deleteRules s caller desc
@@ -133,8 +136,9 @@ checked s = record {
 unfoldable pub done : Call → State → Change
 done (Format id n) s = quietly (formatted id n (sectors (s .image))) emptyDesk
 done Check s = checked s
-done (Allocate caller desc k n l) s = quietly (newFile (s .image) desc k n l) (s .desk)
-done (Assign caller lun desc mode end) s = quietly (s .image) (putLun (s .desk) lun (newLun (s .image) caller desc mode end))
+done (Allocate caller desc k n l rc) s = quietly (newFile (s .image) desc k n l rc) (s .desk)
+done (Assign caller lun desc mode end offered) s =
+    quietly (s .image) (putLun (s .desk) lun (newLun (s .image) caller desc mode end offered))
 done (Close caller lun) s = quietly (s .image) (putLun (s .desk) lun freeLun)
 done (Rewind caller lun) s = quietly (s .image) (putLun (s .desk) lun (movedTo Fresh (lunAt (s .desk) lun)))
 done (Delete caller desc) s = quietly (deleted (slotOf (s .image) desc) (s .image)) (s .desk)
@@ -146,8 +150,8 @@ done (Update caller lun sel num fmt bs) s = transferred s lun (updating (s .imag
 unfoldable pub given : Call → List ℕ
 given (Format id n) = []
 given Check = []
-given (Allocate caller desc k n l) = []
-given (Assign caller lun desc mode end) = []
+given (Allocate caller desc k n l rc) = []
+given (Assign caller lun desc mode end offered) = []
 given (Close caller lun) = []
 given (Rewind caller lun) = []
 given (Delete caller desc) = []
@@ -158,8 +162,8 @@ given (Update caller lun sel num fmt bs) = bs
 unfoldable pub sent : Call → List ℕ
 sent (Format id n) = id
 sent Check = []
-sent (Allocate caller desc k n l) = desc
-sent (Assign caller lun desc mode end) = desc
+sent (Allocate caller desc k n l rc) = rc ∷ desc
+sent (Assign caller lun desc mode end offered) = offered ∷ desc
 sent (Close caller lun) = []
 sent (Rewind caller lun) = []
 sent (Delete caller desc) = desc
@@ -179,8 +183,8 @@ pub data Touch : Type 0 where
 unfoldable pub touch : Call → State → Touch
 touch (Format id n) s = Everything
 touch Check s = Nothing
-touch (Allocate caller desc k n l) s = Nothing
-touch (Assign caller lun desc mode end) s = Nothing
+touch (Allocate caller desc k n l rc) s = Nothing
+touch (Assign caller lun desc mode end offered) s = Nothing
 touch (Close caller lun) s = Nothing
 touch (Rewind caller lun) s = Nothing
 touch (Delete caller desc) s = OneFile (slotOf (s .image) desc)

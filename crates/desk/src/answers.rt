@@ -13,6 +13,7 @@ pub fn code_of(why: Refusal) -> u8
     match why {
         Refusal::UnknownType => 0x02,
         Refusal::BadLun => 0x03,
+        Refusal::WrongCode => 0x07,
         Refusal::NoRight => 0x0B,
         Refusal::InUse => 0x0D,
         Refusal::NoFile => 0x17,

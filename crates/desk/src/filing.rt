@@ -24,9 +24,10 @@ use work::finding::seek;
 use work::making;
 
 impl Desk {
-    /// Makes a file of kind 0, contiguous, of this size, or of kind 1, sequential, of this record length, 0 for variable ones.
-    /// Refuses a volume that is not sound or a desk that does not fit, then the caller, the descriptor, the kind, the numbers, a caller
-    /// without the right, a name that is taken, a full directory, and a volume without such a run.
+    /// Makes a file of kind 0, contiguous, of this size, or of kind 1, sequential, of this record length, 0 for variable ones,
+    /// with this read-protect code. Refuses a volume that is not sound or a desk that does not fit, then the caller, the descriptor, the
+    /// kind, the numbers (a code for a file of user 0 among them), a caller without the right, a name that is taken, a full directory, and
+    /// a volume without such a run.
     pub fn allocate(
         self,
         image: &mut [u8],
@@ -35,8 +36,9 @@ impl Desk {
         kind: u32,
         size: u32,
         record: u32,
+        read_code: u8,
     ) -> Reply
-        ensures { λ r. ⌜ Ensured (Allocate caller (now (desc .entry)) kind size «record») (state (now (image .entry)) self)
+        ensures { λ r. ⌜ Ensured (Allocate caller (now (desc .entry)) kind size «record» «read_code») (state (now (image .entry)) self)
             (r .answer) (now (image .exit)) (r .desk) [] ⌝ }
     {
         let begun = self.begin(image, caller <= LAST_USER);
@@ -52,6 +54,7 @@ impl Desk {
                     kind as usize,
                     size as usize,
                     record as usize,
+                    read_code,
                 ),
             ),
         }

@@ -29,8 +29,9 @@ module _ (u : Lun) (m : ℕ) (z w : List ℕ) (zeroed : z ≡ blanks lunBytes) (
   length-begun = rw (begun, zeroed)
 
   pub packed-held : (n i : ℕ) (r : List ℕ) → u .held ≡ true → m ≡ modeNumber (u .mode) → n ≡ countOf (u .place) → i ≡ firstOf (u .place) → i < 4294967296
-      → r ≡ put 8 (bytes4 i) (set (set w 4 (u .slot % 256)) 5 (n % 256)) → r ≡ packedLun u
+      → u .offered < 256 → r ≡ put 8 (bytes4 i) (set (set (set w 4 (u .slot % 256)) 5 (n % 256)) 6 (u .offered)) → r ≡ packedLun u
   unfolding packedLun put blanks
-  packed-held n i r held em en ei fits e =
+  packed-held n i r held em en ei fits code e =
       let k : i % 4294967296 ≡ i = omega arith in
-      rw (e, begun, zeroed, held, em, en, sym ei, k)
+      let o : u .offered % 256 ≡ u .offered = omega arith in
+      rw (e, begun, zeroed, held, em, en, sym ei, k, o)

@@ -49,12 +49,14 @@ long-back v = rw (word-back (v / 65536), word-back (v % 65536)) (omega arith)
 bytes-bytes4 : (v : ℕ) → v < 4294967296 → Bytes (bytes4 v)
 bytes-bytes4 v h = bytes-append (bytes2 (v / 65536)) (bytes2 (v % 65536)) (bytes-bytes2 (v / 65536) (omega arith)) (bytes-bytes2 (v % 65536) (omega arith))
 
-bytes-held : (mode user slot n i : ℕ) → mode ≤ 7 → user < 65536 → slot < 256 → n < 256 → i < 4294967296 → Bytes (1 ∷ mode ∷ (bytes2 user ++ (slot ∷ n ∷ 0 ∷ 0 ∷ bytes4 i)))
-bytes-held mode user slot n i hm hu hs hn hi =
-    let zeros : Bytes (0 ∷ 0 ∷ bytes4 i) = bytes-cons 0 (0 ∷ bytes4 i) (omega arith) (bytes-cons 0 (bytes4 i) (omega arith) (bytes-bytes4 i hi)) in
-    let rest : Bytes (slot ∷ n ∷ 0 ∷ 0 ∷ bytes4 i) = bytes-cons slot (n ∷ 0 ∷ 0 ∷ bytes4 i) hs (bytes-cons n (0 ∷ 0 ∷ bytes4 i) hn zeros) in
-    let all : Bytes (bytes2 user ++ (slot ∷ n ∷ 0 ∷ 0 ∷ bytes4 i)) = bytes-append (bytes2 user) (slot ∷ n ∷ 0 ∷ 0 ∷ bytes4 i) (bytes-bytes2 user hu) rest in
-    bytes-cons 1 (mode ∷ (bytes2 user ++ (slot ∷ n ∷ 0 ∷ 0 ∷ bytes4 i))) (omega arith) (bytes-cons mode (bytes2 user ++ (slot ∷ n ∷ 0 ∷ 0 ∷ bytes4 i)) (omega arith) all)
+bytes-held : (mode user slot n code i : ℕ) → mode ≤ 7 → user < 65536 → slot < 256 → n < 256 → code < 256 → i < 4294967296
+    → Bytes (1 ∷ mode ∷ (bytes2 user ++ (slot ∷ n ∷ code ∷ 0 ∷ bytes4 i)))
+bytes-held mode user slot n code i hm hu hs hn hc hi =
+    let last : Bytes (code ∷ 0 ∷ bytes4 i) = bytes-cons code (0 ∷ bytes4 i) hc (bytes-cons 0 (bytes4 i) (omega arith) (bytes-bytes4 i hi)) in
+    let rest : Bytes (slot ∷ n ∷ code ∷ 0 ∷ bytes4 i) = bytes-cons slot (n ∷ code ∷ 0 ∷ bytes4 i) hs (bytes-cons n (code ∷ 0 ∷ bytes4 i) hn last) in
+    let all : Bytes (bytes2 user ++ (slot ∷ n ∷ code ∷ 0 ∷ bytes4 i)) = bytes-append (bytes2 user) (slot ∷ n ∷ code ∷ 0 ∷ bytes4 i) (bytes-bytes2 user hu) rest in
+    bytes-cons 1 (mode ∷ (bytes2 user ++ (slot ∷ n ∷ code ∷ 0 ∷ bytes4 i))) (omega arith)
+    (bytes-cons mode (bytes2 user ++ (slot ∷ n ∷ code ∷ 0 ∷ bytes4 i)) (omega arith) all)
 
 pub bytes-packedLun : (u : Lun) → Bytes (packedLun u)
 unfolding packedLun
@@ -63,8 +65,8 @@ bytes-packedLun u = by (u .held) refl
     by : (b : Bool) → u .held ≡ b → Bytes (packedLun u)
     by true e =
         rw e
-        (bytes-held (modeNumber (u .mode)) (u .user % 65536) (u .slot % 256) (countOf (u .place) % 256) (firstOf (u .place) % 4294967296)
-        (mode-below (u .mode)) (omega arith) (omega arith) (omega arith) (omega arith))
+        (bytes-held (modeNumber (u .mode)) (u .user % 65536) (u .slot % 256) (countOf (u .place) % 256) (u .offered % 256) (firstOf (u .place) % 4294967296)
+        (mode-below (u .mode)) (omega arith) (omega arith) (omega arith) (omega arith) (omega arith))
     by false e = rw e (bytes-blanks lunBytes)
 
 -- the place's numbers fit their bytes, and n tells whether there is one
@@ -96,9 +98,10 @@ module _ (u : Lun) (plain : PlainLun u) where
       let n : ℕ = countOf (u .place) % 256 in
       let user : 256 * (u .user % 65536 / 256) + u .user % 65536 % 256 ≡ u .user = word-back (u .user % 65536) ∙ omega (arith, plain .user-fits) in
       let slot : u .slot % 256 ≡ u .slot = omega (arith, plain .slot-fits) in
+      let code : u .offered % 256 ≡ u .offered = omega (arith, plain .code-fits) in
       let place : (if eqb n 0 then Fresh else At (long (bytes4 i) 0) n) ≡ u .place =
       ap (λ (j : ℕ). if eqb n 0 then Fresh else At j n) (long-back i) ∙ place-back (u .place) (plain .place-plain) in
-      rw e (λ t. record { held = true; user = user t; slot = slot t; mode = mode-back (u .mode) t; place = place t })
+      rw e (λ t. record { held = true; user = user t; slot = slot t; mode = mode-back (u .mode) t; offered = code t; place = place t })
 
   pub lun-back : unpackedLun (packedLun u) ≡ u
   unfolding packedLun unpackedLun freeLun blanks

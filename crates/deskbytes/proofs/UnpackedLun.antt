@@ -42,7 +42,7 @@ low m x y h = mul-add-mod-self-left m x y ∙ mod-eq-of-lt h
 record HeldForm (b : List ℕ) : Type 0 where
   one : byte b 0 ≡ 1
   mode-known : byte b 1 ≤ 7
-  gap : word b 6 ≡ 0
+  gap : byte b 7 ≡ 0
   place-known : byte b 5 ≡ 0 → long b 8 ≡ 0
 
 held-form : (b : List ℕ) → zeros b ≡ false → lunForm b ≡ true → HeldForm b
@@ -54,7 +54,7 @@ held-form b z e =
     record {
       one = eqb-true (byte b 0) 1 (and-left _ _ two);
       mode-known = leb-true (byte b 1) 7 (and-right _ _ two);
-      gap = eqb-true (word b 6) 0 (and-right _ _ three);
+      gap = eqb-true (byte b 7) 0 (and-right _ _ three);
       place-known = λ q. eqb-true (long b 8) 0 (or-cases _ _ (and-right _ _ all) (ap not (eq-eqb (byte b 5) 0 q)));
     }
 
@@ -68,7 +68,7 @@ fresh-plain i n e = absurd (true≢false (ap stands (sym e)))
 
 pub free-plain : PlainLun freeLun
 unfolding freeLun
-free-plain = record { free-is-empty = λ e. refl; user-fits = omega arith; slot-fits = omega arith; place-plain = fresh-plain }
+free-plain = record { free-is-empty = λ e. refl; user-fits = omega arith; slot-fits = omega arith; code-fits = omega arith; place-plain = fresh-plain }
 
 all-zero : (b : List ℕ) → length b ≡ lunBytes → zeros b ≡ true → b ≡ blanks lunBytes
 unfolding blanks
@@ -83,7 +83,7 @@ unfolding unpackedLun blanks
 free-is = refl
 
 module _ (b : List ℕ) (twelve : length b ≡ lunBytes) (bytes : Bytes b) (form : HeldForm b) where
-  held-is : unpackedLun b ≡ record { held = true; user = word b 2; slot = byte b 4; mode = modeOf (byte b 1); place = placeIn b }
+  held-is : unpackedLun b ≡ record { held = true; user = word b 2; slot = byte b 4; mode = modeOf (byte b 1); offered = byte b 6; place = placeIn b }
   unfolding unpackedLun
   held-is = rw (form .one)
 
@@ -107,8 +107,7 @@ module _ (b : List ℕ) (twelve : length b ≡ lunBytes) (bytes : Bytes b) (form
       let user : word b 2 % 65536 ≡ word b 2 = omega (arith, word-below 2) in
       let slot : byte b 4 % 256 ≡ byte b 4 = omega (arith, bytes 4) in
       let n : byte b 5 % 256 ≡ byte b 5 = omega (arith, bytes 5) in
-      let six : byte b 6 ≡ 0 = omega (arith, form .gap) in
-      let seven : byte b 7 ≡ 0 = omega (arith, form .gap) in
+      let code : byte b 6 % 256 ≡ byte b 6 = omega (arith, bytes 6) in
       let i : long b 8 % 4294967296 ≡ long b 8 = omega (arith, i-below) in
       rw (
         held-is,
@@ -116,6 +115,7 @@ module _ (b : List ℕ) (twelve : length b ≡ lunBytes) (bytes : Bytes b) (form
         slot,
         place-kept .0,
         n,
+        code,
         place-kept .1,
         i,
         mode-kept (byte b 1) (form .mode-known),
@@ -128,7 +128,7 @@ module _ (b : List ℕ) (twelve : length b ≡ lunBytes) (bytes : Bytes b) (form
         high 256 (byte b 10) (byte b 11) (bytes 11),
         low 256 (byte b 10) (byte b 11) (bytes 11),
       )
-      (sym (listed b 0 lunBytes twelve ∙ rw (form .one, six, seven)))
+      (sym (listed b 0 lunBytes twelve ∙ rw (form .one, form .gap)))
 
   place-plain-in : (i n : ℕ) → placeIn b ≡ At i n → PlainPlace i n
   unfolding placeIn
@@ -146,7 +146,7 @@ module _ (b : List ℕ) (twelve : length b ≡ lunBytes) (bytes : Bytes b) (form
   held-plain : PlainLun (unpackedLun b)
   held-plain =
       rw held-is
-      (record { free-is-empty = λ e. absurd (true≢false e); user-fits = word-below 2; slot-fits = bytes 4; place-plain = place-plain-in })
+      (record { free-is-empty = λ e. absurd (true≢false e); user-fits = word-below 2; slot-fits = bytes 4; code-fits = bytes 6; place-plain = place-plain-in })
 
 module _ (b : List ℕ) (twelve : length b ≡ lunBytes) (bytes : Bytes b) (form : lunForm b ≡ true) where
   pub lun-kept : packedLun (unpackedLun b) ≡ b

@@ -30,23 +30,24 @@ abbrev pub firstOf : Place → ℕ
 firstOf Fresh = 0
 firstOf (At i n) = i
 
--- RULES, Desk bytes: 0 is 1, 1 mode, 2-3 user, 4 slot, 5 n, 6-7 zero, 8-11 i; a free LUN is twelve zeros. A number that is too large for
--- its bytes keeps its lowest ones; no call makes such a desk (`CallsMakePlain` of promises)
+-- RULES, Desk bytes: 0 is 1, 1 mode, 2-3 user, 4 slot, 5 n, 6 the code offered, 7 zero, 8-11 i; a free LUN is twelve zeros. A number that
+-- is too large for its bytes keeps its lowest ones; no call makes such a desk (`CallsMakePlain` of promises)
 unfoldable pub packedLun : Lun → List ℕ
 packedLun u =
     if u .held
     then 1 ∷ modeNumber (u .mode)
-    ∷ (bytes2 (u .user % 65536) ++ (u .slot % 256 ∷ countOf (u .place) % 256 ∷ 0 ∷ 0 ∷ bytes4 (firstOf (u .place) % 4294967296)))
+    ∷ (bytes2 (u .user % 65536)
+    ++ (u .slot % 256 ∷ countOf (u .place) % 256 ∷ u .offered % 256 ∷ 0 ∷ bytes4 (firstOf (u .place) % 4294967296)))
     else blanks lunBytes
 
 unfoldable pub packedLuns : List Lun → List ℕ
 packedLuns us = flat packedLun us
 
--- RULES, Desk bytes: the forms that stand for a LUN: twelve zeros; or 1, a mode of 0 to 7, zeros at 6-7, and no i without an n
+-- RULES, Desk bytes: the forms that stand for a LUN: twelve zeros; or 1, a mode of 0 to 7, zero at 7, and no i without an n
 unfoldable pub lunForm : List ℕ → Bool
 lunForm b =
     zeros b
-    or eqb (byte b 0) 1 and leb (byte b 1) 7 and eqb (word b 6) 0 and (not (eqb (byte b 5) 0) or eqb (long b 8) 0)
+    or eqb (byte b 0) 1 and leb (byte b 1) 7 and eqb (byte b 7) 0 and (not (eqb (byte b 5) 0) or eqb (long b 8) 0)
 
 unfoldable pub deskForm : List ℕ → Bool
 deskForm bs = eqb (length bs) deskSize and all lunForm (pieces lunCount lunBytes bs)
@@ -58,7 +59,7 @@ placeIn b = if eqb (byte b 5) 0 then Fresh else At (long b 8) (byte b 5)
 unfoldable pub unpackedLun : List ℕ → Lun
 unpackedLun b =
     if eqb (byte b 0) 0 then freeLun
-    else record { held = true; user = word b 2; slot = byte b 4; mode = modeOf (byte b 1); place = placeIn b }
+    else record { held = true; user = word b 2; slot = byte b 4; mode = modeOf (byte b 1); offered = byte b 6; place = placeIn b }
 
 unfoldable pub unpackedLuns : List ℕ → List Lun
 unpackedLuns bs = map unpackedLun (pieces lunCount lunBytes bs)
@@ -73,6 +74,7 @@ pub record PlainLun (u : Lun) : Type 0 where
   pub free-is-empty : u .held ≡ false → u ≡ freeLun
   pub user-fits : u .user < 65536
   pub slot-fits : u .slot < 256
+  pub code-fits : u .offered < 256
   pub place-plain : (i n : ℕ) → u .place ≡ At i n → PlainPlace i n
 
 pub record PlainLuns (us : List Lun) : Type 0 where

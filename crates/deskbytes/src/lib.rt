@@ -57,6 +57,7 @@ fn pack_lun(u: Lun, out: &mut [u8])
     put_word(out, 2, u.user as usize % 65536);
     out[4] = (u.slot % 256) as u8;
     out[5] = (count_of(place) % 256) as u8;
+    out[6] = u.offered;
     put_long(out, 8, first_of(place) as usize);
 }
 
@@ -80,8 +81,7 @@ fn lun_form(b: &[u8]) -> bool
     requires { ⌜ length (now b) ≡ lunBytes ⌝ }
     ensures { λ r. ⌜ r ≡ lunForm (now (b .entry)) ⌝ }
 {
-    all_zero(b)
-        | ((b[0] == 1) & (b[1] <= 7) & (word_at(b, 6) == 0) & ((b[5] != 0) | (long_at(b, 8) == 0)))
+    all_zero(b) | ((b[0] == 1) & (b[1] <= 7) & (b[7] == 0) & ((b[5] != 0) | (long_at(b, 8) == 0)))
 }
 
 /// Whether bytes stand for a desk: 192, and twelve by twelve a LUN's.
@@ -133,6 +133,7 @@ fn unpack_lun(b: &[u8]) -> Lun
         user: word_at(b, 2) as u32,
         slot: wide(b[4]) as u32,
         mode: mode,
+        offered: b[6],
         place: place,
     }
 }

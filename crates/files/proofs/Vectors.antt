@@ -61,7 +61,7 @@ appends =
     ∷ (λ img. updated (entryAt img 0) 0 (1 ∷ 2 ∷ 3 ∷ []) img)
     ∷ (λ img. deleted 0 img)
     ∷ [])
-    (allocated 0 desc 1 0 0 3 (formatted (86 ∷ 79 ∷ 76 ∷ 49 ∷ []) 1 16))
+    (allocated 0 desc 1 0 0 7 3 (formatted (86 ∷ 79 ∷ 76 ∷ 49 ∷ []) 1 16))
 
 appends-seen : appends ≡
     (1 ∷ 11 ∷ 0 ∷ 0 ∷ [])

@@ -14,14 +14,14 @@ use Rattle.ownership.specs.Owners.{owned, logical}
 use Rattle.ownership.specs.Blocks.{block, total, pairs, extendedBy, blockOf}
 use Rattle.files.specs.Files.{stream, records}
 
--- RULES, Allocate: an entry of kind k in slot at, and n sectors from s on marked and zeroed; a sequential file takes one, for its access
--- block
+-- RULES, Allocate: an entry of kind k and read-protect code rc in slot at, and n sectors from s on marked and zeroed; a sequential file
+-- takes one, for its access block
 unfoldable pub taken : ℕ → ℕ → ℕ
 taken k n = if eqb k 0 then n else 1
 
-unfoldable pub allocated : ℕ → List ℕ → ℕ → ℕ → ℕ → ℕ → List ℕ → List ℕ
-allocated at d k n l s img =
-    putEntry img at (entry (fields k d l s n))
+unfoldable pub allocated : ℕ → List ℕ → ℕ → ℕ → ℕ → ℕ → ℕ → List ℕ → List ℕ
+allocated at d k n l rc s img =
+    putEntry img at (entry (fields k d rc l s n))
     (putSat img (withBits 1 (sat img) (range s (taken k n)))
     (put (256 * s) (blanks (256 * taken k n)) img))
 

@@ -34,7 +34,7 @@ pub fn lowest_start(img: &[u8], p: Layout, kind: usize, size: usize) -> usize
     lowest_run(sector_of(img, sat), t, n)
 }
 
-/// Allocates a file of this kind, size and record length in slot at, from sector s on.
+/// Allocates a file of this kind, size, record length and read-protect code in slot at, from sector s on.
 pub fn allocate(
     img: &mut [u8],
     p: Layout,
@@ -43,14 +43,15 @@ pub fn allocate(
     kind: usize,
     size: usize,
     len: usize,
+    read_code: u8,
     s: usize,
 )
     requires { ⌜ Room (now img) p at (now desc) kind size len s ⌝ }
-    ensures { λ _. ⌜ now (img .exit) ≡ allocated at (now (desc .entry)) kind size len s (now (img .entry)) ⌝ }
+    ensures { λ _. ⌜ now (img .exit) ≡ allocated at (now (desc .entry)) kind size len «read_code» s (now (img .entry)) ⌝ }
 {
     let n = taken(kind, size);
     zero_run(img, s, n);
     let sat = p.sat;
     mark_in(img, sat, s, n);
-    put_entry(img, p, at, desc, kind, len, s, size);
+    put_entry(img, p, at, desc, kind, read_code, len, s, size);
 }

@@ -64,7 +64,7 @@ pub extern "C" fn twynarvel_check(image: &[u8]) -> u32
     verdict_of(a)
 }
 
-/// Makes a file. Refuses $6F for desk bytes that stand for no desk; then as the call does. The desk bytes stay.
+/// Makes a file with this read-protect code. Refuses $6F for desk bytes that stand for no desk; then as the call does. The desk bytes stay.
 #[no_mangle]
 pub extern "C" fn twynarvel_allocate(
     image: &mut [u8],
@@ -74,21 +74,22 @@ pub extern "C" fn twynarvel_allocate(
     kind: u32,
     size: u32,
     record: u32,
+    read_code: u8,
 ) -> u32
     ensures { λ r. ⌜ served r (now (image .exit)) (now (desk .entry))
-        ≡ serve (Allocate caller (now (desc .entry)) kind size «record») (now (image .entry)) (now (desk .entry)) ⌝ }
+        ≡ serve (Allocate caller (now (desc .entry)) kind size «record» «read_code») (now (image .entry)) (now (desk .entry)) ⌝ }
 {
     if !deskbytes::in_form(desk) {
         return code_of(Refusal::NotSound) as u32;
     }
     let d = desks::open(desk);
-    let r = d.allocate(image, caller, desc, kind, size, record);
+    let r = d.allocate(image, caller, desc, kind, size, record, read_code);
     let a = r.answer;
     status_of(a) as u32
 }
 
-/// Gives a free LUN to a file; `at_end` is 0 for its start, and any other number for its end. Refuses $6F for desk bytes that stand for no
-/// desk; then as the call does.
+/// Gives a free LUN to a file; `at_end` is 0 for its start, and any other number for its end. The LUN keeps the read-protect code
+/// offered. Refuses $6F for desk bytes that stand for no desk; then as the call does.
 #[no_mangle]
 pub extern "C" fn twynarvel_assign(
     image: &[u8],
@@ -98,15 +99,18 @@ pub extern "C" fn twynarvel_assign(
     desc: &[u8],
     mode: u32,
     at_end: u32,
+    offered: u8,
 ) -> u32
     ensures { λ r. ⌜ served r (now (image .entry)) (now (desk .exit))
-        ≡ serve (Assign caller lun (now (desc .entry)) mode (not (eqb «at_end» 0))) (now (image .entry)) (now (desk .entry)) ⌝ }
+        ≡ serve (Assign caller lun (now (desc .entry)) mode (not (eqb «at_end» 0)) offered) (now (image .entry))
+        (now (desk .entry)) ⌝ }
 {
     if !deskbytes::in_form(desk) {
         return code_of(Refusal::NotSound) as u32;
     }
     let d = desks::open(desk);
-    status_of(desks::keep(d.assign(image, caller, lun, desc, mode, at_end != 0), desk)) as u32
+    let r = d.assign(image, caller, lun, desc, mode, at_end != 0, offered);
+    status_of(desks::keep(r, desk)) as u32
 }
 
 /// Frees a LUN. Refuses $6F for desk bytes that stand for no desk; then as the call does.

@@ -45,7 +45,7 @@ use Rattle.files.proofs.allocation.Allocatable.{Allocatable, Sized, run-of, rec
 use Rattle.keeping.proofs.SlotWritten.{changed-entry, sat-written, elsewhere, blank-block, blank-sectors, blank-length, clash-before, clash-after}
 use Rattle.records.proofs.RecordStreams as none-in
 
-module _ {v : List ℕ} {at : ℕ} {d : List ℕ} {k n l s : ℕ} (A : Allocatable v at d k n l s) where
+module _ {v : List ℕ} {at : ℕ} {d : List ℕ} {k n l rc s : ℕ} (A : Allocatable v at d k n l rc s) where
   F : Facts v
   F = facts v (A .is-sound)
 
@@ -53,7 +53,7 @@ module _ {v : List ℕ} {at : ℕ} {d : List ℕ} {k n l s : ℕ} (A : Allocatab
   long = descriptor-length d (A .well-described)
 
   e : List ℕ
-  e = entry (fields k d l s n)
+  e = entry (fields k d rc l s n)
 
   new : List ℕ
   new = range s (taken k n)
@@ -65,7 +65,7 @@ module _ {v : List ℕ} {at : ℕ} {d : List ℕ} {k n l s : ℕ} (A : Allocatab
   w = put (256 * s) (blanks (256 * taken k n)) v
 
   v′ : List ℕ
-  v′ = allocated at d k n l s v
+  v′ = allocated at d k n l rc s v
 
   keeps-w : Keeps new v w
   unfolding w new
@@ -87,17 +87,17 @@ module _ {v : List ℕ} {at : ℕ} {d : List ℕ} {k n l s : ℕ} (A : Allocatab
 
   length-e : length e ≡ 32
   unfolding e
-  length-e = entry-length (fields k d l s n) long
+  length-e = entry-length (fields k d rc l s n) long
 
   not-slot : (i : ℕ) → i < 8 * dirs v → i ≢ at → clear new (owned v (entryAt v i)) ≡ true
   not-slot i h c = frees-not-slot v F new new-below new-free i h
 
-  pub allocate-changed : Changed v (allocated at d k n l s v) at (entry (fields k d l s n)) (range s (taken k n) ++ tables v)
+  pub allocate-changed : Changed v (allocated at d k n l rc s v) at (entry (fields k d rc l s n)) (range s (taken k n) ++ tables v)
   unfolding allocated bits new w e
   allocate-changed = changed-entry v F w new keeps-w (frees-not-system v F new new-below new-free) bits length-bits at (A .slot-in) e length-e not-slot
 
-  pub allocate-entry : entryAt (allocated at d k n l s v) at ≡ entry (fields k d l s n)
-  allocate-entry = entry-here v (allocated at d k n l s v) at (entry (fields k d l s n)) (range s (taken k n) ++ tables v) allocate-changed
+  pub allocate-entry : entryAt (allocated at d k n l rc s v) at ≡ entry (fields k d rc l s n)
+  allocate-entry = entry-here v (allocated at d k n l rc s v) at (entry (fields k d rc l s n)) (range s (taken k n) ++ tables v) allocate-changed
 
   allocate-sat : sat v′ ≡ bits
   unfolding allocated v′ bits new w e
@@ -105,7 +105,7 @@ module _ {v : List ℕ} {at : ℕ} {d : List ℕ} {k n l s : ℕ} (A : Allocatab
 
   t-kept : sectors v′ ≡ sectors v
   unfolding v′
-  t-kept = sectors-kept v (allocated at d k n l s v) at (entry (fields k d l s n)) (range s (taken k n) ++ tables v) allocate-changed
+  t-kept = sectors-kept v (allocated at d k n l rc s v) at (entry (fields k d rc l s n)) (range s (taken k n) ++ tables v) allocate-changed
 
   -- the sectors taken are blank
   keeps-v′ : Keeps (tables v) w v′
@@ -115,7 +115,7 @@ module _ {v : List ℕ} {at : ℕ} {d : List ℕ} {k n l s : ℕ} (A : Allocatab
     at = elsewhere v F w new keeps-w (frees-not-system v F new new-below new-free) bits length-bits at (A .slot-in) e length-e not-slot;
   }
 
-  pub allocate-blank : part (256 * s) (256 * taken k n) (allocated at d k n l s v) ≡ blanks (256 * taken k n)
+  pub allocate-blank : part (256 * s) (256 * taken k n) (allocated at d k n l rc s v) ≡ blanks (256 * taken k n)
   unfolding v′ new w clear
   allocate-blank =
       keeps-range (tables v) w v′ keeps-v′ s (taken k n)
@@ -132,28 +132,28 @@ module _ {v : List ℕ} {at : ℕ} {d : List ℕ} {k n l s : ℕ} (A : Allocatab
     unfolding taken
     takes-n = rw is-run
 
-    pub run-logical : logical (allocated at d k n l s v) (entry (fields k d l s n)) ≡ range s n
+    pub run-logical : logical (allocated at d k n l rc s v) (entry (fields k d rc l s n)) ≡ range s n
     unfolding logical
-    run-logical = rw (entry-contiguous (fields k d l s n), is-run, entry-start (fields k d l s n) long, entry-size (fields k d l s n) long)
+    run-logical = rw (entry-contiguous (fields k d rc l s n), is-run, entry-start (fields k d rc l s n) long, entry-size (fields k d rc l s n) long)
 
     -- "zero-filled"
-    pub run-stored : stored (allocated at d k n l s v) (entry (fields k d l s n)) ≡ blanks (256 * n)
+    pub run-stored : stored (allocated at d k n l rc s v) (entry (fields k d rc l s n)) ≡ blanks (256 * n)
     unfolding stored laidOut
-    run-stored = rw run-logical (sectors-part s n (allocated at d k n l s v) ∙ rw takes-n at allocate-blank)
+    run-stored = rw run-logical (sectors-part s n (allocated at d k n l rc s v) ∙ rw takes-n at allocate-blank)
 
     run-owned : owned v′ e ≡ new
     unfolding owned v′ e new
-    run-owned = rw (entry-used (fields k d l s n), entry-contiguous (fields k d l s n), is-run, run-logical, takes-n)
+    run-owned = rw (entry-used (fields k d rc l s n), entry-contiguous (fields k d rc l s n), is-run, run-logical, takes-n)
 
     run-placed : placed v′ e ≡ true
     unfolding placed e
     run-placed =
-        rw (entry-used (fields k d l s n), entry-contiguous (fields k d l s n), is-run, entry-start (fields k d l s n) long, entry-size (fields k d l s n) long, t-kept)
+        rw (entry-used (fields k d rc l s n), entry-contiguous (fields k d rc l s n), is-run, entry-start (fields k d rc l s n) long, entry-size (fields k d rc l s n) long, t-kept)
         (le-leb (s + n) (sectors v) (rw takes-n at (A .inside)))
 
     run-content : tailSound v′ e and recordsSound v′ e ≡ true
     unfolding tailSound recordsSound e _and_ _or_
-    run-content = rw (entry-used (fields k d l s n), entry-contiguous (fields k d l s n), is-run)
+    run-content = rw (entry-used (fields k d rc l s n), entry-contiguous (fields k d rc l s n), is-run)
 
   -- a sequential one
   module _ (c : eqb k 0 ≡ false) where
@@ -161,48 +161,48 @@ module _ {v : List ℕ} {at : ℕ} {d : List ℕ} {k n l s : ℕ} (A : Allocatab
     unfolding taken
     takes-one = rw c
 
-    pub records-block : block (allocated at d k n l s v) (entry (fields k d l s n)) ≡ blanks 256
+    pub records-block : block (allocated at d k n l rc s v) (entry (fields k d rc l s n)) ≡ blanks 256
     unfolding block sector
-    records-block = rw (entry-start (fields k d l s n) long) (rw takes-one at allocate-blank)
+    records-block = rw (entry-start (fields k d rc l s n) long) (rw takes-one at allocate-blank)
 
-    pub records-logical : logical (allocated at d k n l s v) (entry (fields k d l s n)) ≡ []
+    pub records-logical : logical (allocated at d k n l rc s v) (entry (fields k d rc l s n)) ≡ []
     unfolding logical
-    records-logical = rw (entry-contiguous (fields k d l s n), c, records-block) blank-sectors
+    records-logical = rw (entry-contiguous (fields k d rc l s n), c, records-block) blank-sectors
 
-    pub records-streamLength : streamLength (block (allocated at d k n l s v) (entry (fields k d l s n))) ≡ 0
+    pub records-streamLength : streamLength (block (allocated at d k n l rc s v) (entry (fields k d rc l s n))) ≡ 0
     records-streamLength = rw records-block blank-length
 
-    pub records-stored : stored (allocated at d k n l s v) (entry (fields k d l s n)) ≡ []
+    pub records-stored : stored (allocated at d k n l rc s v) (entry (fields k d rc l s n)) ≡ []
     unfolding stored laidOut flat
     records-stored = rw records-logical
 
-    pub records-stream : stream (allocated at d k n l s v) (entry (fields k d l s n)) ≡ []
+    pub records-stream : stream (allocated at d k n l rc s v) (entry (fields k d rc l s n)) ≡ []
     unfolding stream
     records-stream = rw records-streamLength
 
-    pub records-none : records (allocated at d k n l s v) (entry (fields k d l s n)) ≡ []
+    pub records-none : records (allocated at d k n l rc s v) (entry (fields k d rc l s n)) ≡ []
     unfolding records
-    records-none = rw records-stream (none-in.records-none (recordLength (entry (fields k d l s n))))
+    records-none = rw records-stream (none-in.records-none (recordLength (entry (fields k d rc l s n))))
 
     records-owned : owned v′ e ≡ new
     unfolding owned v′ e new range
-    records-owned = rw (entry-used (fields k d l s n), entry-contiguous (fields k d l s n), c, records-logical, takes-one, entry-start (fields k d l s n) long)
+    records-owned = rw (entry-used (fields k d rc l s n), entry-contiguous (fields k d rc l s n), c, records-logical, takes-one, entry-start (fields k d rc l s n) long)
 
     records-placed : placed v′ e ≡ true
     unfolding placed v′ e
     records-placed =
-        rw (entry-used (fields k d l s n), entry-contiguous (fields k d l s n), c, entry-start (fields k d l s n) long, t-kept, records-block)
+        rw (entry-used (fields k d rc l s n), entry-contiguous (fields k d rc l s n), c, entry-start (fields k d rc l s n) long, t-kept, records-block)
         (both-true _ _ (lt-ltb s (sectors v) (omega (arith, takes-one, A .inside))) (blank-block (sectors v)))
 
     records-content : tailSound v′ e and recordsSound v′ e ≡ true
     unfolding tailSound recordsSound tail v′ e all _and_ _or_
     records-content =
-        rw (entry-used (fields k d l s n), entry-contiguous (fields k d l s n), c, records-streamLength, records-stored, records-stream)
-        (none-in.whole-none (recordLength (entry (fields k d l s n))))
+        rw (entry-used (fields k d rc l s n), entry-contiguous (fields k d rc l s n), c, records-streamLength, records-stored, records-stream)
+        (none-in.whole-none (recordLength (entry (fields k d rc l s n))))
 
   entry-good : valid e ≡ true
   unfolding e
-  entry-good = entry-valid (fields k d l s n) (A .well-described) (A .known-kind) (by (sizes k n l (A .numbers)))
+  entry-good = entry-valid (fields k d rc l s n) (A .well-described) (A .known-kind) (A .code-allowed) (by (sizes k n l (A .numbers)))
     where
       by : Sized k n l → (if eqb k 0 then leb 1 n and eqb l 0 else eqb n 0 and leb l recordLimit) ≡ true
       by (run-of c a b q) = rw (eq-eqb k 0 c) (both-true _ _ (le-leb 1 n a) (eq-eqb l 0 q))
@@ -221,20 +221,20 @@ module _ {v : List ℕ} {at : ℕ} {d : List ℕ} {k n l s : ℕ} (A : Allocatab
       by (records-of c a b) = record { owns-new = records-owned c; is-placed = records-placed c; has-content = records-content c }
 
   -- what the file owns
-  pub allocate-owned : owned (allocated at d k n l s v) (entry (fields k d l s n)) ≡ range s (taken k n)
+  pub allocate-owned : owned (allocated at d k n l rc s v) (entry (fields k d rc l s n)) ≡ range s (taken k n)
   unfolding v′ e new
   allocate-owned = made .owns-new
 
   p : List ℕ
-  p = ahead v (allocated at d k n l s v) at (entry (fields k d l s n)) (range s (taken k n) ++ tables v) allocate-changed
+  p = ahead v (allocated at d k n l rc s v) at (entry (fields k d rc l s n)) (range s (taken k n) ++ tables v) allocate-changed
 
   b : List ℕ
-  b = behind v (allocated at d k n l s v) at (entry (fields k d l s n)) (range s (taken k n) ++ tables v) allocate-changed
+  b = behind v (allocated at d k n l rc s v) at (entry (fields k d rc l s n)) (range s (taken k n) ++ tables v) allocate-changed
 
   was : allOwned v ≡ p ++ b
   unfolding p b
   was =
-      owned-was v (allocated at d k n l s v) at (entry (fields k d l s n)) (range s (taken k n) ++ tables v) allocate-changed
+      owned-was v (allocated at d k n l rc s v) at (entry (fields k d rc l s n)) (range s (taken k n) ++ tables v) allocate-changed
       ∙ rw (owned-unused v (entryAt v at) (A .slot-unused))
 
   now-distinct : distinct (p ++ (new ++ b)) ≡ true
@@ -253,24 +253,24 @@ module _ {v : List ℕ} {at : ℕ} {d : List ℕ} {k n l s : ℕ} (A : Allocatab
   unfolding e
   names-differ =
       namesDiffer-set (entries v) at e
-      (all-ext _ _ (λ x. not (clashes e x)) (entries v) (λ x a q. clash-before d e x (entry-described (fields k d l s n) long) a) unnamed unnamed)
-      (all-ext _ _ (λ x. not (clashes x e)) (entries v) (λ x a q. clash-after d e x (entry-described (fields k d l s n) long) a) unnamed unnamed)
+      (all-ext _ _ (λ x. not (clashes e x)) (entries v) (λ x a q. clash-before d e x (entry-described (fields k d rc l s n) long) a) unnamed unnamed)
+      (all-ext _ _ (λ x. not (clashes x e)) (entries v) (λ x a q. clash-after d e x (entry-described (fields k d rc l s n) long) a) unnamed unnamed)
       (F .names)
 
-  pub allocate-sound : sound (allocated at d k n l s v) ≡ true
+  pub allocate-sound : sound (allocated at d k n l rc s v) ≡ true
   unfolding v′ e p b
   allocate-sound =
-      change-sound v (allocated at d k n l s v) at (entry (fields k d l s n)) (range s (taken k n) ++ tables v) allocate-changed F (or-second _ _ entry-good) names-differ
+      change-sound v (allocated at d k n l rc s v) at (entry (fields k d rc l s n)) (range s (taken k n) ++ tables v) allocate-changed F (or-second _ _ entry-good) names-differ
       (made .is-placed) (made .has-content) (rw (made .owns-new) now-distinct) (rw (made .owns-new) now-sat)
 
-  pub allocate-bytes : Bytes v → Bytes d → Bytes (allocated at d k n l s v)
+  pub allocate-bytes : Bytes v → Bytes d → rc < 256 → Bytes (allocated at d k n l rc s v)
   unfolding allocated putEntry putSat new
-  allocate-bytes hv hd =
-      bytes-put (256 * dirAt v + 32 * at) (entry (fields k d l s n)) _ (by (sizes k n l (A .numbers)))
+  allocate-bytes hv hd hc =
+      bytes-put (256 * dirAt v + 32 * at) (entry (fields k d rc l s n)) _ (by (sizes k n l (A .numbers)))
       (bytes-putSector (satAt v) _ (put (256 * s) (blanks (256 * taken k n)) v)
       (bytes-withBits 1 (sat v) new (omega arith) (bytes-sat v F) (length-sat v F) (below-table v F new new-below))
       (bytes-put (256 * s) (blanks (256 * taken k n)) v (bytes-blanks (256 * taken k n)) hv))
     where
-      by : Sized k n l → Bytes (entry (fields k d l s n))
-      by (run-of c a q z) = bytes-entry (fields k d l s n) (omega arith) hd (omega arith) (omega (arith, A .inside, F .high)) (omega arith)
-      by (records-of c a q) = bytes-entry (fields k d l s n) (omega (arith, A .known-kind)) hd (omega arith) (omega (arith, A .inside, F .high)) (omega arith)
+      by : Sized k n l → Bytes (entry (fields k d rc l s n))
+      by (run-of c a q z) = bytes-entry (fields k d rc l s n) (omega arith) hd hc (omega arith) (omega (arith, A .inside, F .high)) (omega arith)
+      by (records-of c a q) = bytes-entry (fields k d rc l s n) (omega (arith, A .known-kind)) hd hc (omega arith) (omega (arith, A .inside, F .high)) (omega arith)

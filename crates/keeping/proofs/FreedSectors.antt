@@ -76,11 +76,11 @@ delete-frees v k s hk x h =
     x h (omega (arith, sectors-kept v v′ k (blanks 32) (tables v) C))
 
 -- allocate: what was free is still free, but for the run
-pub allocate-takes : {v : List ℕ} {at : ℕ} {d : List ℕ} {k n l s : ℕ} → Allocatable v at d k n l s → (x : ℕ) → x < sectors v
-    → isFree (sat (allocated at d k n l s v)) x ≡ (isFree (sat v) x and not (among x (range s (taken k n))))
-allocate-takes {v} {at} {d} {k} {n} {l} {s} A x h =
-    let v′ : List ℕ = allocated at d k n l s v in
-    let e′ : List ℕ = entry (fields k d l s n) in
+pub allocate-takes : {v : List ℕ} {at : ℕ} {d : List ℕ} {k n l rc s : ℕ} → Allocatable v at d k n l rc s → (x : ℕ) → x < sectors v
+    → isFree (sat (allocated at d k n l rc s v)) x ≡ (isFree (sat v) x and not (among x (range s (taken k n))))
+allocate-takes {v} {at} {d} {k} {n} {l} {rc} {s} A x h =
+    let v′ : List ℕ = allocated at d k n l rc s v in
+    let e′ : List ℕ = entry (fields k d rc l s n) in
     let ws : List ℕ = range s (taken k n) ++ tables v in
     let C : Changed v v′ at e′ ws = allocate-changed A in
     let p : List ℕ = ahead v v′ at e′ ws C in

@@ -83,27 +83,27 @@ module _ (d : List ℕ) (hd : descriptor d ≡ true) where
       let apart : clashes x (getD xs k z) ≡ false = not-true _ (all-at (λ y. not (clashes x y)) xs k z (and-left _ _ n) (le-of-suc-le-suc h)) in
       not-both _ _ (is-false (named d x) (λ w. true≢false (sym (both-clash x (getD xs k z) w m) ∙ apart))) (set-lost xs k z e (le-of-suc-le-suc h) (and-right _ _ n) m q)
 
-module _ {v : List ℕ} {at : ℕ} {d : List ℕ} {k n l s : ℕ} (A : Allocatable v at d k n l s) where
+module _ {v : List ℕ} {at : ℕ} {d : List ℕ} {k n l rc s : ℕ} (A : Allocatable v at d k n l rc s) where
   e′ : List ℕ
-  e′ = entry (fields k d l s n)
+  e′ = entry (fields k d rc l s n)
 
-  now : entries (allocated at d k n l s v) ≡ set (entries v) at e′
+  now : entries (allocated at d k n l rc s v) ≡ set (entries v) at e′
   unfolding e′
   now = allocate-changed A .entries-are
 
   called : described e′ ≡ d
   unfolding e′
-  called = entry-described (fields k d l s n) (descriptor-length d (A .well-described))
+  called = entry-described (fields k d rc l s n) (descriptor-length d (A .well-described))
 
   -- the new file is found by its descriptor, in its slot; every other name is found as before
-  pub allocate-found : (some (named d) (entries (allocated at d k n l s v)) ≡ true) × (index (named d) (entries (allocated at d k n l s v)) ≡ at)
+  pub allocate-found : (some (named d) (entries (allocated at d k n l rc s v)) ≡ true) × (index (named d) (entries (allocated at d k n l rc s v)) ≡ at)
   unfolding named
   allocate-found =
       rw now (set-found (named d) (entries v) at e′ (omega (arith, length-entries v, A .slot-in)) (A .new-name) (rw called (same-refl d)))
 
   pub allocate-names : (d′ : List ℕ) → descriptor d′ ≡ true → d′ ≢ d
-      → (some (named d′) (entries (allocated at d k n l s v)) ≡ some (named d′) (entries v))
-      × (index (named d′) (entries (allocated at d k n l s v)) ≡ index (named d′) (entries v))
+      → (some (named d′) (entries (allocated at d k n l rc s v)) ≡ some (named d′) (entries v))
+      × (index (named d′) (entries (allocated at d k n l rc s v)) ≡ index (named d′) (entries v))
   allocate-names d′ hd h =
       rw now
       (set-same (named d′) (entries v) at [] e′ (is-false (named d′ e′) (λ m. h (named-is d′ e′ m ∙ called))

@@ -23,7 +23,7 @@ use Rattle.luns.specs.declared.Place.{Place}
 use Rattle.luns.specs.declared.Place.the-variants.{Fresh, At}
 use Rattle.luns.specs.declared.Lun.{Lun}
 use Rattle.luns.specs.Modes.{writes}
-use Rattle.luns.specs.Luns.{lunFits, placeExists, holdsSlot, freeLun, allAgree, fits}
+use Rattle.luns.specs.Luns.{lunFits, placeExists, readsByRight, holdsSlot, freeLun, allAgree, fits}
 use Rattle.luns.specs.Code.Fits.{seated, stands, placeWithin, reach}
 
 or-and : (n a b : Bool) → n or (a and b) ≡ (n or a) and (n or b)
@@ -91,7 +91,7 @@ module _ (img : List ℕ) where
           rw held-reach (sym (place-exists (entryAt img (u .slot)) (u .place)) ∙ z)
 
       pub held-seated : (not (unused (entryAt img (u .slot))) and leb (u .user) lastUser
-          and (not (writes (u .mode)) or hasRight (u .user) (owner (entryAt img (u .slot))))) ≡ seated img u
+          and (not (writes (u .mode)) or hasRight (u .user) (owner (entryAt img (u .slot)))) and readsByRight img u) ≡ seated img u
       unfolding seated _or_
       held-seated = rw h
 
@@ -101,7 +101,7 @@ module _ (img : List ℕ) where
 
       pub held-used : seated img u ≡ true → unused (entryAt img (u .slot)) ≡ false
       unfolding seated _or_
-      held-used e = not-true _ (and-left _ _ (and-left _ _ (rw h at e)))
+      held-used e = not-true _ (and-left _ _ (and-left _ _ (and-left _ _ (rw h at e))))
 
       pub held-low : seated img u ≡ true → u .slot < 8 * dirs img
       held-low e = used-slot img (u .slot) (held-used e)

@@ -9,18 +9,18 @@ use lib.ListN.{set, length, getD, replicate, length-replicate, length-set}
 use borrow.Author.Tests.{eqb-true, eq-eqb, leb-true, not-true, le-leb, ltb-true, lt-ltb}
 use Rattle.numbers.specs.Numbers.{lastUser, mostMoved, lunCount}
 use Rattle.lists.specs.Lists.{_or_, _and_, all}
-use Rattle.lists.proofs.Tests.{both-true, and-left, and-right, or-first, or-second}
+use Rattle.lists.proofs.Tests.{both-true, and-left, and-right, or-cases, or-first, or-second}
 use Rattle.lists.proofs.JoinedLists.{all-set}
 use Rattle.lists.proofs.Lists.{all-at, all-ext}
 use Rattle.lists.proofs.Blanks.{all-replicate}
 use Rattle.volume.specs.Directory.{entryAt, unused, owner, contiguous}
-use Rattle.files.specs.Rights.{hasRight}
+use Rattle.files.specs.Rights.{hasRight, mayRead}
 use Rattle.files.specs.Files.{extent}
 use Rattle.luns.specs.declared.Place.{Place}
 use Rattle.luns.specs.declared.Lun.{Lun}
-use Rattle.luns.specs.Luns.{movedTo, agree, allAgree, placeExists, lunFits, freeLun, fits}
+use Rattle.luns.specs.Luns.{movedTo, agree, allAgree, placeExists, readsByRight, lunFits, freeLun, fits}
 use Rattle.luns.specs.declared.Mode.{Mode}
-use Rattle.luns.specs.Modes.{shutsOut, compatible, writes}
+use Rattle.luns.specs.Modes.{shutsOut, compatible, reads, writes}
 use Rattle.luns.specs.declared.Place.the-variants.{Fresh, At}
 
 -- `agree` does not look at the place, is symmetric, and holds of a free LUN
@@ -112,20 +112,28 @@ pub record Fitted (img : List ℕ) (u : Lun) : Type 0 where
   pub used : unused (entryAt img (u .slot)) ≡ false
   pub user-in : u .user ≤ lastUser
   pub right : not (writes (u .mode)) or hasRight (u .user) (owner (entryAt img (u .slot))) ≡ true
+  pub read-right : readsByRight img u ≡ true
   pub place : placeExists img (entryAt img (u .slot)) (u .place) ≡ true
 
 pub lun-fitted : (img : List ℕ) (u : Lun) → u .held ≡ true → lunFits img u ≡ true → Fitted img u
-unfolding lunFits _or_
+unfolding lunFits readsByRight _or_
 lun-fitted img u h f =
     let g = rw h at f in
-    let a = and-left _ _ g in
+    let r = and-left _ _ g in
+    let a = and-left _ _ r in
     let b = and-left _ _ a in
     record {
       used = not-true _ (and-left _ _ b);
       user-in = leb-true _ _ (and-right _ _ b);
       right = and-right _ _ a;
+      read-right = and-right _ _ r;
       place = and-right _ _ g;
     }
+
+-- a LUN that reads may
+pub may-read : (img : List ℕ) (u : Lun) → readsByRight img u ≡ true → reads (u .mode) ≡ true → mayRead (u .user) (u .offered) (entryAt img (u .slot)) ≡ true
+unfolding readsByRight
+may-read img u h q = or-cases _ _ h (ap not q)
 
 pub fitted-lun : (img : List ℕ) (u : Lun) → (u .held ≡ true → Fitted img u) → lunFits img u ≡ true
 unfolding lunFits
@@ -134,7 +142,8 @@ fitted-lun img u f = go (u .held) refl
     go : (b : Bool) → u .held ≡ b → lunFits img u ≡ true
     go true h =
         let g = f h in
-        or-second _ _ (both-true _ _ (both-true _ _ (both-true _ _ (ap not (g .used)) (le-leb _ _ (g .user-in))) (g .right)) (g .place))
+        or-second _ _
+        (both-true _ _ (both-true _ _ (both-true _ _ (both-true _ _ (ap not (g .used)) (le-leb _ _ (g .user-in))) (g .right)) (g .read-right)) (g .place))
     go false h = or-first _ _ (ap not h)
 
 pub free-fits : (img : List ℕ) → lunFits img freeLun ≡ true
@@ -197,6 +206,7 @@ pub fitting-kept : (v v′ : List ℕ) (us : List Lun) (c : Lun → Bool) → al
     → ((u : Lun) → u .held ≡ true → c u ≡ true → Fitted v u
     → (entryAt v′ (u .slot) ≡ entryAt v (u .slot)) × (extent v (entryAt v (u .slot)) ≤ extent v′ (entryAt v (u .slot))))
     → Fitting v us → Fitting v′ us
+unfolding readsByRight
 fitting-kept v v′ us c hc g f = record {
   sixteen = f .sixteen;
   each = all-ext c (lunFits v) (lunFits v′) us (λ u cu fu. fitted-lun v′ u (λ h.
@@ -206,6 +216,7 @@ fitting-kept v v′ us c hc g f = record {
         used = rw (k .0) (o .used);
         user-in = o .user-in;
         right = rw (k .0) (o .right);
+        read-right = rw (k .0) (o .read-right);
         place = rw (k .0) (place-longer v v′ (entryAt v (u .slot)) (u .place) (k .1) (o .place));
       })) hc (f .each);
   agreed = f .agreed;
@@ -220,8 +231,8 @@ fitting-put v us k u h a f = record {
 }
 
 moved-fitted : (v : List ℕ) (p : Place) (u : Lun) → Fitted v u → placeExists v (entryAt v (u .slot)) p ≡ true → Fitted v (movedTo p u)
-unfolding movedTo
-moved-fitted v p u o x = record { used = o .used; user-in = o .user-in; right = o .right; place = x }
+unfolding movedTo readsByRight
+moved-fitted v p u o x = record { used = o .used; user-in = o .user-in; right = o .right; read-right = o .read-right; place = x }
 
 -- the held LUN with number k moved to a place that exists
 pub fitting-moved : (v : List ℕ) (us : List Lun) (k : ℕ) (p : Place) → k < lunCount → getD us k freeLun .held ≡ true

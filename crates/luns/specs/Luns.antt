@@ -9,20 +9,20 @@ use Rattle.numbers.specs.Numbers.{mostMoved, lastUser, lunCount}
 use Rattle.lists.specs.Lists.{if_then_else_, _and_, _or_, all, some}
 use Rattle.volume.specs.Directory.{contiguous, entryAt, unused, owner}
 use Rattle.files.specs.Files.{extent}
-use Rattle.files.specs.Rights.{hasRight}
+use Rattle.files.specs.Rights.{hasRight, mayRead}
 use Rattle.luns.specs.declared.Mode.the-variants.{Pr}
 use Rattle.luns.specs.declared.Place.the-variants.{Fresh, At}
 use Rattle.luns.specs.declared.Lun.{Lun}
 use Rattle.luns.specs.declared.Place.{Place}
-use Rattle.luns.specs.Modes.{compatible, writes}
+use Rattle.luns.specs.Modes.{compatible, reads, writes}
 
 -- RULES, Logical units: a free LUN, as close and format leave it
 unfoldable pub freeLun : Lun
-freeLun = record { held = false; user = 0; slot = 0; mode = Pr; place = Fresh }
+freeLun = record { held = false; user = 0; slot = 0; mode = Pr; offered = 0; place = Fresh }
 
 -- the same assignment at another place
 unfoldable pub movedTo : Place → Lun → Lun
-movedTo p u = record { held = u .held; user = u .user; slot = u .slot; mode = u .mode; place = p }
+movedTo p u = record { held = u .held; user = u .user; slot = u .slot; mode = u .mode; offered = u .offered; place = p }
 
 -- RULES, Places and selectors: the target of Next, Current, Prior and Random, 0 to 3 in that order
 unfoldable pub target : ℕ → ℕ → Place → ℕ
@@ -48,12 +48,18 @@ placeExists img e Fresh = true
 placeExists img e (At i n) =
     if contiguous e then leb 1 n and leb n mostMoved and leb (i + n) (extent img e) else eqb n 1 and ltb i (extent img e)
 
--- RULES, Fitting: of a held LUN, the slot is in use, the user is in range and has the right if the mode writes, the place exists
+-- RULES, Rights: a LUN that reads has the right to, by the code that it keeps
+unfoldable pub readsByRight : List ℕ → Lun → Bool
+readsByRight img u = not (reads (u .mode)) or mayRead (u .user) (u .offered) (entryAt img (u .slot))
+
+-- RULES, Fitting: of a held LUN, the slot is in use, the user is in range and has the right if the mode writes, and the right to read if
+-- it reads, the place exists
 unfoldable pub lunFits : List ℕ → Lun → Bool
 lunFits img u =
     not (u .held)
     or not (unused (entryAt img (u .slot))) and leb (u .user) lastUser
     and (not (writes (u .mode)) or hasRight (u .user) (owner (entryAt img (u .slot))))
+    and readsByRight img u
     and placeExists img (entryAt img (u .slot)) (u .place)
 
 -- RULES, Fitting: sixteen LUNs, each as it has to be, and any two of one slot with compatible modes
@@ -68,5 +74,5 @@ unfoldable pub isHeld : List Lun → ℕ → Bool
 isHeld us k = some (holdsSlot k) us
 
 unfoldable pub luns-open : Unit {0}
-unfolding freeLun movedTo target placeless agree allAgree placeExists lunFits fits holdsSlot isHeld
+unfolding freeLun movedTo target placeless agree allAgree placeExists readsByRight lunFits fits holdsSlot isHeld
 luns-open = tt

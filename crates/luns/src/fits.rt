@@ -2,7 +2,7 @@
 // once, whatever number of LUNs holds it.
 ghost use mathlib.Core.Path.{_≡_};
 ghost use mathlib.Core.Bool.{true, not};
-ghost use Prim.Native.Nat.{ℕ, _<_};
+ghost use Prim.Native.Nat.{ℕ, _*_, _<_};
 ghost use lib.ListN.{length, getD};
 ghost use lib.Dec.{leb};
 ghost use Rattle.lists.specs.Lists.{_and_, _or_, all};
@@ -11,13 +11,14 @@ ghost use Rattle.volume.specs.Directory.{unused, owner};
 ghost use Rattle.volume.specs.Code.Located.{Located};
 ghost use Rattle.files.specs.Files.{sound};
 ghost use Rattle.files.specs.Rights.{hasRight};
-ghost use Rattle.luns.specs.Luns.{freeLun, fits};
+ghost use Rattle.luns.specs.Luns.{freeLun, readsByRight, fits};
 ghost use Rattle.luns.specs.Code.Fits.{seated, stands, placeWithin, reach};
 use crate::Lun;
 use crate::Place;
 use crate::holding::all_agree;
 use files::extent::extent_of;
 use files::rights::has_right;
+use files::rights::may_read;
 use numbers::LAST_USER;
 use numbers::LUNS;
 use numbers::MOST_MOVED;
@@ -36,7 +37,17 @@ fn may_hold(e: &[u8], user: u32, writes: bool) -> bool
     !unused(e) & (user <= LAST_USER) & (!writes | has_right(user, its))
 }
 
-// A free LUN, or one whose slot is in use, whose user is in range and that writes with the right to it.
+/// Whether a LUN that reads has the right to, by the code that it keeps.
+pub fn reads_by_right(image: &[u8], p: Layout, u: Lun) -> bool
+    requires { ⌜ Located (now image) p × (u .slot < 8 * p .dirs) ⌝ }
+    ensures { λ r. ⌜ r ≡ readsByRight (now (image .entry)) u ⌝ }
+{
+    let mode = u.mode;
+    let slot = u.slot as usize;
+    !mode.reads() | may_read(u.user, u.offered, entry_of(image, p, slot))
+}
+
+// A free LUN, or one whose slot is in use, whose user is in range, and that writes and reads with the right to.
 fn seated(image: &[u8], p: Layout, u: Lun) -> bool
     requires { ⌜ Located (now image) p ⌝ }
     ensures { λ r. ⌜ r ≡ seated (now (image .entry)) u ⌝ }
@@ -49,7 +60,7 @@ fn seated(image: &[u8], p: Layout, u: Lun) -> bool
         return false;
     }
     let mode = u.mode;
-    may_hold(entry_of(image, p, slot), u.user, mode.writes())
+    may_hold(entry_of(image, p, slot), u.user, mode.writes()) & reads_by_right(image, p, u)
 }
 
 fn all_seated(image: &[u8], p: Layout, luns: [Lun; LUNS]) -> bool
@@ -140,7 +151,8 @@ fn all_stand(image: &[u8], p: Layout, luns: [Lun; LUNS]) -> bool
     true
 }
 
-/// Whether the desk fits a sound volume: slots in use, users in range, writers with the right, modes that agree, places that exist.
+/// Whether the desk fits a sound volume: slots in use, users in range, writers and readers with the right to, modes that agree, places that
+/// exist.
 pub fn fits(image: &[u8], p: Layout, luns: [Lun; LUNS]) -> bool
     requires { ⌜ Located (now image) p × (sound (now image) ≡ true) ⌝ }
     ensures { λ r. ⌜ r ≡ fits (now (image .entry)) luns ⌝ }

@@ -18,6 +18,7 @@ impl Lun {
             user: 0,
             slot: 0,
             mode: Mode::Pr,
+            offered: 0,
             place: Place::Fresh,
         }
     }
@@ -32,6 +33,7 @@ impl Lun {
             user: self.user,
             slot: self.slot,
             mode: mode,
+            offered: self.offered,
             place: place,
         }
     }

@@ -23,11 +23,12 @@ pub enum Place {
     At { i: u32, n: u32 },
 }
 
-/// A logical unit. What a free one holds besides its flag is not read.
+/// A logical unit. It keeps the read-protect code that was offered for its file. What a free one holds besides its flag is not read.
 pub struct Lun {
     pub held: bool,
     pub user: u32,
     pub slot: u32,
     pub mode: Mode,
+    pub offered: u8,
     pub place: Place,
 }

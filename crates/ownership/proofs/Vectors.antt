@@ -62,14 +62,17 @@ names-judged : judged-names ≡ true ∷ false ∷ false ∷ false ∷ false ∷
 unfolding judged-names lists-open parts-open names-open
 names-judged = refl
 
--- an entry is valid up to record length 1,024; two of one name clash, and two unused ones do not
-file : ℕ → List ℕ
-file l = entry (fields 1 (0 ∷ 5 ∷ (replicate 8 32 ++ (88 ∷ replicate 7 32 ++ (65 ∷ 32 ∷ [])))) l 6 0)
+-- an entry is valid up to record length 1,024; two of one name clash, and two unused ones do not; a read-protect code is for files of users
+-- other than 0
+file : ℕ → ℕ → ℕ → List ℕ
+file user rc l = entry (fields 1 (0 ∷ user ∷ (replicate 8 32 ++ (88 ∷ replicate 7 32 ++ (65 ∷ 32 ∷ [])))) rc l 6 0)
 
 judged-entries : List Bool
 judged-entries =
-    valid (file 1024) ∷ valid (file 1025) ∷ namesDiffer (file 0 ∷ file 7 ∷ []) ∷ namesDiffer (replicate 32 0 ∷ replicate 32 0 ∷ file 0 ∷ []) ∷ []
+    valid (file 5 0 1024) ∷ valid (file 5 0 1025) ∷ namesDiffer (file 5 0 0 ∷ file 5 0 7 ∷ [])
+    ∷ namesDiffer (replicate 32 0 ∷ replicate 32 0 ∷ file 5 0 0 ∷ [])
+    ∷ valid (file 5 255 0) ∷ valid (file 0 0 0) ∷ valid (file 0 1 0) ∷ []
 
-entries-judged : judged-entries ≡ true ∷ false ∷ false ∷ true ∷ []
+entries-judged : judged-entries ≡ true ∷ false ∷ false ∷ true ∷ true ∷ true ∷ false ∷ []
 unfolding judged-entries file lists-open parts-open names-open directory-open
 entries-judged = refl

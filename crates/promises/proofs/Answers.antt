@@ -7,7 +7,8 @@ use Prim.Native.Nat.{ℕ}
 use native.Mathlib.Omega.{arith}
 use Rattle.lists.specs.Lists.{among, _or_}
 use Rattle.work.specs.declared.Refusal.{Refusal}
-use Rattle.work.specs.declared.Refusal.the-variants.{UnknownType, BadLun, NoRight, InUse, NoFile, BadRequest, BadLength, PastEnd, OutOfRange, OtherLength, Exists, NoRoom}
+use Rattle.work.specs.declared.Refusal.the-variants.{UnknownType, BadLun, WrongCode, NoRight, InUse, NoFile, BadRequest, BadLength, PastEnd, OutOfRange, OtherLength, Exists}
+use Rattle.work.specs.declared.Refusal.the-variants.{NoRoom}
 use Rattle.work.specs.declared.Refusal.the-variants.{BadDescriptor, NoSegment, NameTaken, DirectoryFull, NotSound}
 use Rattle.work.specs.Refusals.{code, Rule, _if_}
 use Rattle.desk.specs.declared.Answer.{Answer}
@@ -22,6 +23,7 @@ code-in-table : (r : Refusal) → among (code r) statusTable ≡ true
 unfolding statusTable among _or_
 code-in-table UnknownType = refl
 code-in-table BadLun = refl
+code-in-table WrongCode = refl
 code-in-table NoRight = refl
 code-in-table InUse = refl
 code-in-table NoFile = refl
@@ -86,8 +88,8 @@ pub unready-refused : UnreadyRefused
 unfolding rules beginRules openRules assignRules deleteRules
 unready-refused (Format id n) s f k h = absurd (f id n refl)
 unready-refused Check s f k h = absurd (k refl)
-unready-refused (Allocate caller desc i n l) s f k h = unready (Allocate caller desc i n l) s _ refl h
-unready-refused (Assign caller lun desc mode end) s f k h = unready (Assign caller lun desc mode end) s _ refl h
+unready-refused (Allocate caller desc i n l rc) s f k h = unready (Allocate caller desc i n l rc) s _ refl h
+unready-refused (Assign caller lun desc mode end offered) s f k h = unready (Assign caller lun desc mode end offered) s _ refl h
 unready-refused (Close caller lun) s f k h = unready (Close caller lun) s _ refl h
 unready-refused (Rewind caller lun) s f k h = unready (Rewind caller lun) s _ refl h
 unready-refused (Delete caller desc) s f k h = unready (Delete caller desc) s _ refl h

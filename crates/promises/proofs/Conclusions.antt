@@ -19,7 +19,7 @@ use Rattle.desk.specs.declared.Answer.{Answer}
 use Rattle.desk.specs.declared.Answer.the-variants.{Done, Refused}
 use Rattle.promises.specs.Conclusions.{CheckCounts, NotAllRefused, NotAllDone, NotUnchanged, NotOnlyE}
 use Rattle.promises.specs.Answers.{First}
-use Rattle.promises.specs.Steps.{blank, service-open, calls, story, desc}
+use Rattle.promises.specs.Steps.{blank, service-open, calls, story, descOf, desc}
 use Rattle.promises.specs.Runs.{run, next}
 use Rattle.promises.proofs.Answers.{refused-first}
 
@@ -67,16 +67,16 @@ sat-byte : List ℕ → ℕ
 sat-byte img = getD img 256 0
 
 byte-1 : sat-byte (reached 1 .image) ≡ 0xE0
-unfolding sat-byte reached story blank desc next run service-open
+unfolding sat-byte reached story blank descOf desc next run service-open
 byte-1 = refl
 
-byte-2 : sat-byte (step (Allocate 5 (desc 88) 0 3 0) (reached 1) .image) ≡ 0xFC
-unfolding sat-byte reached story blank desc next run service-open
+byte-2 : sat-byte (step (Allocate 5 (desc 88) 0 3 0 0) (reached 1) .image) ≡ 0xFC
+unfolding sat-byte reached story blank descOf desc next run service-open
 byte-2 = refl
 
 pub not-unchanged : NotUnchanged
 not-unchanged p meets h =
-    let c : Call = Allocate 5 (desc 88) 0 3 0 in
+    let c : Call = Allocate 5 (desc 88) 0 3 0 0 in
     let e : step c (reached 1) .image ≡ reached 1 .image = sym (ap (λ (o : Outcome). o .image) (meets c (reached 1))) ∙ h c (reached 1) in
     let z : _≡_ {A = ℕ} 0xFC 0xE0 = sym byte-2 ∙ ap sat-byte e ∙ byte-1 in
     omega arith
@@ -101,7 +101,7 @@ record AtStep6 : Type 0 where
   byte-is : sat-byte (step step-6 (reached 6) .image) ≡ 0xF3
 
 found : AtStep6
-unfolding sat-byte reached story blank desc next run step-6 service-open
+unfolding sat-byte reached story blank descOf desc next run step-6 service-open
 found = record { is-done = refl; sequential = refl; one-record = refl; block-at = refl; long = refl; byte-was = refl; byte-is = refl }
 
 pub not-only-E : NotOnlyE

@@ -40,12 +40,12 @@ use Rattle.promises.proofs.Updating.{update-free}
 use Rattle.promises.proofs.Writing.{written-run, written-records}
 
 -- Allocate takes the run
-free-allocate : (caller : ℕ) (desc : List ℕ) (k n l : ℕ) (s : State) → AllocateTold s caller desc k n l
-    → free (newFile (s .image) desc k n l) + taken k n ≡ free (s .image)
+free-allocate : (caller : ℕ) (desc : List ℕ) (k n l rc : ℕ) (s : State) → AllocateTold s caller desc k n l rc
+    → free (newFile (s .image) desc k n l rc) + taken k n ≡ free (s .image)
 unfolding newFile
-free-allocate caller desc k n l s T =
+free-allocate caller desc k n l rc s T =
     let v : List ℕ = s .image in
-    let A = can-allocate caller desc k n l s T in
+    let A = can-allocate caller desc k n l rc s T in
     let c = changed-free v _ _ _ _ (allocate-changed A) (facts v (ready-sound s (T .is-ready))) (allocate-sound A) in
     let new = ap length (allocate-owned A) ∙ length-range (lowestRun (taken k n) v) (taken k n) in
     omega (arith, c, new, unused-count v (entryAt v (index unused (entries v))) (A .slot-unused))
@@ -107,8 +107,8 @@ counted : (c : Call) (s : State) → Bytes (s .image) → NoFormat c → Accepte
 unfolding done quietly checked transferred trade fileOf reading writing updating moving
 counted (Format id n) s b h a = absurd (h id n refl)
 counted Check s b h a = refl
-counted (Allocate caller desc k n l) s b h a = free-allocate caller desc k n l s (allocate-told caller desc k n l s a) ∙ omega arith
-counted (Assign caller lun desc mode end) s b h a = refl
+counted (Allocate caller desc k n l rc) s b h a = free-allocate caller desc k n l rc s (allocate-told caller desc k n l rc s a) ∙ omega arith
+counted (Assign caller lun desc mode end offered) s b h a = refl
 counted (Close caller lun) s b h a = refl
 counted (Rewind caller lun) s b h a = refl
 counted (Delete caller desc) s b h a = omega (arith, free-delete caller desc s (delete-told caller desc s a))

@@ -9,10 +9,10 @@ use Rattle.promises.specs.FrontSteps.{front-steps}
 use Rattle.promises.specs.Demands.{Demands}
 use Rattle.promises.proofs.Answers.{in-table, refusal-keeps, refused-exactly, unready-refused, one-outcome}
 use Rattle.promises.proofs.Sectors.{in-order}
-use Rattle.promises.proofs.Formatted.{accepted-format}
-use Rattle.promises.proofs.Allocated.{accepted-allocate}
-use Rattle.promises.proofs.Deleted.{accepted-delete}
-use Rattle.promises.proofs.Seated.{accepted-assign, accepted-close, accepted-rewind}
+use Rattle.promises.proofs.Effects.Formatted.{accepted-format}
+use Rattle.promises.proofs.Effects.Allocated.{accepted-allocate}
+use Rattle.promises.proofs.Effects.Deleted.{accepted-delete}
+use Rattle.promises.proofs.Effects.Seated.{accepted-assign, accepted-close, accepted-rewind}
 use Rattle.promises.proofs.Counts.{free-count}
 use Rattle.promises.proofs.Reading.{accepted-read}
 use Rattle.promises.proofs.Writing.{accepted-write}
@@ -28,6 +28,9 @@ use Rattle.promises.proofs.Fronts.FrontAnswers.{front-in-table, request
 use Rattle.promises.proofs.Fronts.FrontCarried.{block-answered, only-the-part, only-reads-fill, accepted-through}
 use Rattle.promises.proofs.Fronts.FrontReadBack.{written-through, written-sector-through, updated-through}
 use Rattle.promises.proofs.Fronts.FrontRuns.{requests-are-visits, requests-are-runs, front-stays-good}
+use Rattle.promises.proofs.Effects.Buffers.{only-reads-hand-over}
+use Rattle.promises.proofs.Private.ByRight.{read-by-right, never-a-byte}
+use Rattle.promises.proofs.Private.OldVolumes.{old-volumes}
 use Rattle.promises.proofs.Conclusions.{not-all-refused, not-all-done, not-unchanged, not-only-E, check-counts}
 
 pub demands : Demands
@@ -91,6 +94,10 @@ demands = record {
   front-stays-good = front-stays-good;
   one-ending = one-ending;
   front-steps = front-steps;
+  read-by-right = read-by-right;
+  never-a-byte = never-a-byte;
+  only-reads-hand-over = only-reads-hand-over;
+  old-volumes = old-volumes;
   one-outcome = one-outcome;
   not-all-refused = not-all-refused;
   not-all-done = not-all-done;

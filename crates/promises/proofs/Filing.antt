@@ -1,8 +1,8 @@
 -- Format, allocate and delete: what each keeps.
 use mathlib.Core.Path.{_≡_, refl, ap, sym, _∙_}
 use mathlib.Core.Bool.{true, true≢false, false, not}
-use mathlib.Core.List.{List}
-use Prim.Native.Nat.{ℕ}
+use mathlib.Core.List.{List, _∷_}
+use Prim.Native.Nat.{ℕ, suc}
 use borrow.Author.Tests.{eq-eqb, not-true}
 use Rattle.lists.specs.Parts.{sectors}
 use Rattle.lists.specs.Lists.{index, all}
@@ -51,31 +51,32 @@ preserves-format id n s T = record {
 }
 
 -- Allocate: the slot was unused, so that it held no file, and no LUN holds it
-module _ (caller : ℕ) (desc : List ℕ) (k n l : ℕ) (s : State) (T : AllocateTold s caller desc k n l) where
+module _ (caller : ℕ) (desc : List ℕ) (k n l rc : ℕ) (s : State) (T : AllocateTold s caller desc k n l rc) where
   abbrev slot : ℕ
   slot = index unused (entries (s .image))
 
-  pub can-allocate : Allocatable (s .image) (index unused (entries (s .image))) desc k n l (lowestRun (taken k n) (s .image))
+  pub can-allocate : Allocatable (s .image) (index unused (entries (s .image))) desc k n l rc (lowestRun (taken k n) (s .image))
   unfolding exists sized
   can-allocate =
-      allocatable (s .image) desc k n l (ready-sound s (T .is-ready)) (T .entry-free) (T .described) (T .new-name) (T .kind-known) (T .sized-ok) (T .run-free)
+      allocatable (s .image) desc k n l rc (ready-sound s (T .is-ready)) (T .entry-free) (T .described) (T .new-name) (T .kind-known) (T .sized-ok)
+      (T .code-allowed) (T .run-free)
 
   new-slot : (j : ℕ) → unused (entryAt (s .image) j) ≡ false → j ≡ slot → ⊥
   new-slot j u p = true≢false (sym (can-allocate .slot-unused) ∙ ap (λ (i : ℕ). unused (entryAt (s .image) i)) (sym p) ∙ u)
 
-  good-allocated : Bytes (s .image) → Bytes desc → Good (state (newFile (s .image) desc k n l) (s .desk))
+  good-allocated : Bytes (s .image) → Bytes (rc ∷ desc) → Good (state (newFile (s .image) desc k n l rc) (s .desk))
   unfolding newFile
   good-allocated bi b = record {
-    volume = record { is-sound = allocate-sound can-allocate; is-bytes = allocate-bytes can-allocate bi b };
+    volume = record { is-sound = allocate-sound can-allocate; is-bytes = allocate-bytes can-allocate bi (λ i. b (suc i)) (b 0) };
     is-fitting = fits-is _ _ (changed-fitting (s .image) _ slot _ _ (allocate-changed can-allocate) (s .desk .luns) (λ u. true) (any-lun (s .desk .luns))
         (λ u h c o q. absurd (new-slot (u .slot) (o .used) q))
         (ready-fitting s (T .is-ready)));
   }
 
-  pub preserves-allocate : Bytes (s .image) → Preserves desc Nothing s (state (newFile (s .image) desc k n l) (s .desk))
+  pub preserves-allocate : Bytes (s .image) → Preserves (rc ∷ desc) Nothing s (state (newFile (s .image) desc k n l rc) (s .desk))
   unfolding newFile
   preserves-allocate bi =
-      preserves-change s (state (newFile (s .image) desc k n l) (s .desk)) slot _ _ (allocate-changed can-allocate) desc Nothing (good-allocated bi)
+      preserves-change s (state (newFile (s .image) desc k n l rc) (s .desk)) slot _ _ (allocate-changed can-allocate) (rc ∷ desc) Nothing (good-allocated bi)
       (λ j f h. new-slot j (f .used))
       (λ i f x h. absurd (new-slot slot (f .used) refl))
 

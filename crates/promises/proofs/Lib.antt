@@ -18,11 +18,9 @@ pub mod Writing
 pub mod Sectors
 pub mod Preserved
 pub mod Conclusions
-pub mod Formatted
-pub mod Allocated
-pub mod Deleted
-pub mod Seated
+pub mod Effects
 pub mod Counts
 pub mod Lasts
+pub mod Private
 pub mod Fronts
 pub mod Demands

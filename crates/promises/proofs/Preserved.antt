@@ -33,8 +33,8 @@ preserved : (c : Call) (s : State) → Bytes (s .image) → Accepted c s → Pre
 unfolding sent touch done quietly checked transferred
 preserved (Format id n) s b a = preserves-format id n s (format-told id n s a)
 preserved Check s b a = preserves-all _ _ s
-preserved (Allocate caller desc k n l) s b a = preserves-allocate caller desc k n l s (allocate-told caller desc k n l s a) b
-preserved (Assign caller lun desc mode end) s b a = preserves-assign caller lun desc mode end s (assign-told caller lun desc mode end s a)
+preserved (Allocate caller desc k n l rc) s b a = preserves-allocate caller desc k n l rc s (allocate-told caller desc k n l rc s a) b
+preserved (Assign caller lun desc mode end offered) s b a = preserves-assign caller lun desc mode end offered s (assign-told caller lun desc mode end offered s a)
 preserved (Close caller lun) s b a = preserves-close [] lun s
 preserved (Rewind caller lun) s b a = preserves-rewind [] caller lun s (rewind-told caller lun s a)
 preserved (Delete caller desc) s b a = preserves-delete caller desc s (delete-told caller desc s a) b
@@ -65,8 +65,8 @@ touches-less : (c : Call) (s : State) → NoFormat c → remakes (touch c s) ≡
 unfolding touch remakes
 touches-less (Format id n) s h = absurd (h id n refl)
 touches-less Check s h = refl
-touches-less (Allocate caller desc k n l) s h = refl
-touches-less (Assign caller lun desc mode end) s h = refl
+touches-less (Allocate caller desc k n l rc) s h = refl
+touches-less (Assign caller lun desc mode end offered) s h = refl
 touches-less (Close caller lun) s h = refl
 touches-less (Rewind caller lun) s h = refl
 touches-less (Delete caller desc) s h = refl
@@ -98,7 +98,7 @@ good-run [] s g b = g
 good-run (c ∷ cs) s g b = good-run cs (next c s) (good-next c s g (b .0)) (b .1)
 
 -- an accepted format leaves a good state, whatever was there
-good-format : (s : State) (id : List ℕ) (n : ℕ) → Accepts (Format id n) s → Good (next (Format id n) s)
+pub good-format : (s : State) (id : List ℕ) (n : ℕ) → Accepts (Format id n) s → Good (next (Format id n) s)
 unfolding done quietly
 good-format s id n h =
     let a = accepted (Format id n) s h in

@@ -1,19 +1,17 @@
 -- Assign, close and rewind: the image stays, and the LUN that each puts fits.
 use mathlib.Core.Path.{_≡_, refl, ap, _∙_, sym}
 use mathlib.Core.Bool.{true, false, Bool, not, true≢false}
-use mathlib.Core.List.{List}
-use Prim.Native.Nat.{ℕ, _-_, _≤_, _+_, _*_}
+use mathlib.Core.List.{List, _∷_}
+use Prim.Native.Nat.{ℕ, _-_, _≤_}
 use native.Mathlib.Omega.{arith}
 use lib.Dec.{leb}
-use lib.ListN.{getD, take, drop}
-use lib.Seq.{getD-take, getD-drop}
 use borrow.Author.Tests.{leb-true}
 use Rattle.lists.specs.Lists.{_and_, if_then_else_, _or_}
-use Rattle.lists.specs.Parts.{part}
 use Rattle.lists.proofs.Tests.{and-right, and-left}
 use Rattle.lists.proofs.Lists.{same-true}
 use Rattle.volume.specs.Names.{userOf}
-use Rattle.volume.specs.Directory.{entryAt, contiguous, named, described, owner}
+use Rattle.volume.specs.Directory.{entryAt, contiguous, named, owner}
+use Rattle.volume.proofs.EntryFields.{described-owner}
 use Rattle.files.specs.Files.{extent}
 use Rattle.files.specs.Rights.{hasRight}
 use Rattle.luns.specs.declared.Place.the-variants.{Fresh, At}
@@ -83,12 +81,8 @@ start-exists v e m end = go (end and writes m and leb 1 (extent v e)) refl
 
 -- the user of a descriptor is the owner of the file that it names
 desc-owner : (desc e : List ℕ) → named desc e ≡ true → userOf desc ≡ owner e
-unfolding named described part
-desc-owner desc e h =
-    let q : desc ≡ take 20 (drop 2 e) = same-true _ _ h in
-    let a : getD (take 20 (drop 2 e)) 0 0 ≡ getD e 2 0 = getD-take 20 (drop 2 e) 0 0 (omega arith) ∙ getD-drop 2 e 0 0 in
-    let b : getD (take 20 (drop 2 e)) 1 0 ≡ getD e 3 0 = getD-take 20 (drop 2 e) 1 0 (omega arith) ∙ getD-drop 2 e 1 0 in
-    ap (λ (d : List ℕ). 256 * getD d 0 0 + getD d 1 0) q ∙ rw (a, b)
+unfolding named
+desc-owner desc e h = ap userOf (same-true _ _ h) ∙ described-owner e
 
 right-of : (w h : Bool) → (w and not h) ≡ false → not w or h ≡ true
 unfolding _and_ _or_
@@ -97,8 +91,8 @@ right-of true false e = absurd (true≢false e)
 right-of false h e = refl
 
 -- the new LUN fits, and agrees with all
-module _ (caller lun : ℕ) (desc : List ℕ) (mode : ℕ) (end : Bool) (s : State) (T : AssignTold s caller lun desc mode end) where
-  pub new-fitted : Fitted (s .image) (newLun (s .image) caller desc mode end)
+module _ (caller lun : ℕ) (desc : List ℕ) (mode : ℕ) (end : Bool) (offered : ℕ) (s : State) (T : AssignTold s caller lun desc mode end offered) where
+  pub new-fitted : Fitted (s .image) (newLun (s .image) caller desc mode end offered)
   unfolding newLun seatOf spare
   new-fitted =
       let e : List ℕ = entryAt (s .image) (slotOf (s .image) desc) in
@@ -106,14 +100,15 @@ module _ (caller lun : ℕ) (desc : List ℕ) (mode : ℕ) (end : Bool) (s : Sta
         used = file-used (T .named-file);
         user-in = leb-true _ _ (and-left _ _ (and-left _ _ (T .is-spare)));
         right = rw (sym (desc-owner desc e (file-named (T .named-file)))) (right-of (writes (modeOf mode)) (hasRight caller (userOf desc)) (T .right));
+        read-right = unfold newLun seatOf in T .read-right;
         place = start-exists (s .image) e (modeOf mode) end;
       }
 
   abbrev seated : Desk
-  seated = putLun (s .desk) lun (newLun (s .image) caller desc mode end)
+  seated = putLun (s .desk) lun (newLun (s .image) caller desc mode end offered)
 
-  pub preserves-assign : Preserves desc Nothing s (state (s .image) (putLun (s .desk) lun (newLun (s .image) caller desc mode end)))
+  pub preserves-assign : Preserves (offered ∷ desc) Nothing s (state (s .image) (putLun (s .desk) lun (newLun (s .image) caller desc mode end offered)))
   preserves-assign =
-      preserves-desk desc Nothing s seated (λ g.
+      preserves-desk (offered ∷ desc) Nothing s seated (λ g.
       good-desk s seated g
       (put-fitting (s .image) (s .desk) lun _ (fitted-lun (s .image) _ (λ h. new-fitted)) (T .agreed) (fitting (s .image) (s .desk .luns) (g .is-fitting))))

@@ -12,13 +12,13 @@ use Rattle.lists.specs.Lists.{some, _and_, all}
 use Rattle.lists.proofs.Tests.{and-left, and-right, or-left, or-right}
 use Rattle.volume.specs.Names.{volumeId, descriptor, userOf}
 use Rattle.volume.specs.Volume.{inRange}
-use Rattle.volume.specs.Directory.{entries, unused, contiguous}
+use Rattle.volume.specs.Directory.{entries, unused, contiguous, codeAllowed}
 use Rattle.volume.specs.Sat.{lowestRun, free}
 use Rattle.files.specs.Rights.{hasRight}
 use Rattle.files.specs.Changes.{taken, needed, newPairs}
 use Rattle.files.specs.Files.{recordAt, extent}
 use Rattle.luns.specs.Modes.{modeOf, writes, reads}
-use Rattle.luns.specs.Luns.{agree, isHeld, placeless}
+use Rattle.luns.specs.Luns.{agree, isHeld, placeless, readsByRight}
 use Rattle.luns.specs.declared.Mode.{Mode}
 use Rattle.work.specs.Volumes.{formatRules, exists, sized, allocateRules, placeRules, namedRules, slotOf}
 use Rattle.work.specs.Transfers.{oddLength, ended, storedAs, handedAs, unfit, readRules, wrongLength, beyond, roomRules, storeRules, writeRules}
@@ -60,21 +60,22 @@ format-told id n s a =
     }
 
 -- Allocate
-pub record AllocateTold (s : State) (caller : ℕ) (desc : List ℕ) (k n l : ℕ) : Type 0 where
+pub record AllocateTold (s : State) (caller : ℕ) (desc : List ℕ) (k n l rc : ℕ) : Type 0 where
   pub is-ready : ready s ≡ true
   pub caller-in : caller ≤ lastUser
   pub described : descriptor desc ≡ true
   pub kind-known : k ≤ 1
   pub sized-ok : sized k n l ≡ true
+  pub code-allowed : codeAllowed (userOf desc) rc ≡ true
   pub right : hasRight caller (userOf desc) ≡ true
   pub new-name : exists (s .image) desc ≡ false
   pub entry-free : some unused (entries (s .image)) ≡ true
   pub run-free : lowestRun (taken k n) (s .image) < sectors (s .image)
 
-pub allocate-told : (caller : ℕ) (desc : List ℕ) (k n l : ℕ) (s : State) → Accepted (Allocate caller desc k n l) s → AllocateTold s caller desc k n l
+pub allocate-told : (caller : ℕ) (desc : List ℕ) (k n l rc : ℕ) (s : State) → Accepted (Allocate caller desc k n l rc) s → AllocateTold s caller desc k n l rc
 unfolding rules allocateRules placeRules
-allocate-told caller desc k n l s a =
-    let (begin, own) = passes-append (beginRules s (leb caller lastUser)) (allocateRules (s .image) caller desc k n l) (a .passes) in
+allocate-told caller desc k n l rc s a =
+    let (begin, own) = passes-append (beginRules s (leb caller lastUser)) (allocateRules (s .image) caller desc k n l rc) (a .passes) in
     let B = begin-told s (leb caller lastUser) begin in
     let (badDescriptor, (unknownType, (outOfRange, (noRight, (nameTaken, (directoryFull, (noRoom, none))))))) = own in
     record {
@@ -82,7 +83,8 @@ allocate-told caller desc k n l s a =
       caller-in = leb-true _ _ (B .is-fine);
       described = not-false _ badDescriptor;
       kind-known = ltb-false _ _ unknownType;
-      sized-ok = not-false _ outOfRange;
+      sized-ok = and-left _ _ (not-false _ outOfRange);
+      code-allowed = and-right _ _ (not-false _ outOfRange);
       right = not-false _ noRight;
       new-name = nameTaken;
       entry-free = not-false _ directoryFull;
@@ -101,26 +103,28 @@ named-told img desc p =
     record { described = not-false _ badDescriptor; found = not-false _ noFile }
 
 -- Assign
-pub record AssignTold (s : State) (caller lun : ℕ) (desc : List ℕ) (mode : ℕ) (end : Bool) : Type 0 where
+pub record AssignTold (s : State) (caller lun : ℕ) (desc : List ℕ) (mode : ℕ) (end : Bool) (offered : ℕ) : Type 0 where
   pub is-ready : ready s ≡ true
   pub is-spare : spare (s .desk) caller lun ≡ true
   pub mode-known : mode ≤ 7
   pub named-file : NamedTold (s .image) desc
+  pub read-right : readsByRight (s .image) (newLun (s .image) caller desc mode end offered) ≡ true
   pub right : (writes (modeOf mode) and not (hasRight caller (userOf desc))) ≡ false
-  pub agreed : all (agree (newLun (s .image) caller desc mode end)) (s .desk .luns) ≡ true
+  pub agreed : all (agree (newLun (s .image) caller desc mode end offered)) (s .desk .luns) ≡ true
 
-pub assign-told : (caller lun : ℕ) (desc : List ℕ) (mode : ℕ) (end : Bool) (s : State) → Accepted (Assign caller lun desc mode end) s
-    → AssignTold s caller lun desc mode end
+pub assign-told : (caller lun : ℕ) (desc : List ℕ) (mode : ℕ) (end : Bool) (offered : ℕ) (s : State) → Accepted (Assign caller lun desc mode end offered) s
+    → AssignTold s caller lun desc mode end offered
 unfolding rules assignRules seatRules newLun seatOf
-assign-told caller lun desc mode end s a =
+assign-told caller lun desc mode end offered s a =
     let (begin, (unknownType, own)) = passes-append (beginRules s (spare (s .desk) caller lun)) _ (a .passes) in
     let B = begin-told s (spare (s .desk) caller lun) begin in
-    let (named, (noRight, none)) = passes-append (namedRules (s .image) desc) _ own in
+    let (named, (wrongCode, (noRight, none))) = passes-append (namedRules (s .image) desc) _ own in
     record {
       is-ready = B .is-ready;
       is-spare = B .is-fine;
       mode-known = ltb-false _ _ unknownType;
       named-file = named-told (s .image) desc named;
+      read-right = not-false _ wrongCode;
       right = or-left _ _ noRight;
       agreed = not-false _ (or-right _ _ noRight);
     }

@@ -38,8 +38,8 @@ trading t g = record { takes = t; gives = g }
 unfoldable pub trade : Call → State → Trade
 trade (Format id n) s = trading 0 0
 trade Check s = trading 0 0
-trade (Allocate caller desc k n l) s = trading (taken k n) 0
-trade (Assign caller lun desc mode end) s = trading 0 0
+trade (Allocate caller desc k n l rc) s = trading (taken k n) 0
+trade (Assign caller lun desc mode end offered) s = trading 0 0
 trade (Close caller lun) s = trading 0 0
 trade (Rewind caller lun) s = trading 0 0
 trade (Delete caller desc) s = trading 0 (sectorsHeld (s .image) (entryAt (s .image) (slotOf (s .image) desc)))

@@ -8,13 +8,13 @@ use lib.ListN.{length}
 use Rattle.deskbytes.specs.DeskBytes.{deskSize, deskForm, PlainLuns}
 use Rattle.desk.specs.declared.Desk.{Desk}
 use Rattle.desk.specs.Desk.{State, state, emptyDesk}
-use Rattle.desk.specs.Calls.{Call, step}
+use Rattle.desk.specs.Calls.{Call, sent, step}
 use Rattle.front.specs.Front.{packedDesk, unpackedDesk}
 use Rattle.promises.specs.Runs.{run}
-use Rattle.promises.specs.Sectors.{Bytes}
+use Rattle.promises.specs.Sectors.{Bytes, AllBytes}
 
--- sixteen LUNs, of which the free ones hold nothing: users below 65,536, slots and n below 256, i below 4,294,967,296, a place At has n
--- of 1 or more
+-- sixteen LUNs, of which the free ones hold nothing: users below 65,536, slots, n and codes below 256, i below 4,294,967,296, a place At
+-- has n of 1 or more
 abbrev pub PlainDesk : Desk → Type 0
 PlainDesk d = PlainLuns (d .luns)
 
@@ -45,8 +45,8 @@ pub record OnePlainDesk : Type 0 where
   pub else-exactly-one : (bs : List ℕ) → Bytes bs → deskForm bs ≡ true → OnlyDesk bs (unpackedDesk bs)
   pub other-length-is-bad : (bs : List ℕ) → length bs ≢ deskSize → deskForm bs ≡ false
 
--- "every desk that the calls make from the empty one is plain": one call, on any image; and so any calls
+-- "every desk that the calls make from the empty one is plain": one call that is sent bytes, on any image; and so any calls
 pub record CallsMakePlain : Type 0 where
   pub empty-is-plain : PlainDesk emptyDesk
-  pub each-call : (c : Call) (s : State) → PlainDesk (s .desk) → PlainDesk (step c s .desk)
-  pub any-calls : (img : List ℕ) (cs : List Call) → PlainDesk (run cs (state img emptyDesk) .desk)
+  pub each-call : (c : Call) (s : State) → Bytes (sent c) → PlainDesk (s .desk) → PlainDesk (step c s .desk)
+  pub any-calls : (img : List ℕ) (cs : List Call) → AllBytes cs → PlainDesk (run cs (state img emptyDesk) .desk)

@@ -9,7 +9,7 @@ use Rattle.lists.specs.Lists.{among, range, _or_, _and_}
 use Rattle.lists.specs.Parts.{sectors, sector, blanks}
 use Rattle.volume.specs.Names.{descriptor}
 use Rattle.volume.specs.Volume.{system, sat}
-use Rattle.volume.specs.Directory.{entryAt, unused, kind, described, recordLength, start, size}
+use Rattle.volume.specs.Directory.{entryAt, unused, kind, described, readCode, recordLength, start, size}
 use Rattle.volume.specs.Formatted.{formatted}
 use Rattle.volume.specs.Sat.{free, isFree, runAt}
 use Rattle.ownership.specs.Owners.{owned}
@@ -41,7 +41,7 @@ AcceptedFormat = (s : State) (id : List ℕ) (n : ℕ) → Accepts (Format id n)
 
 -- RULES, Allocate: the file is found by its descriptor in slot j, which is the lowest unused one; it is as asked for, and zeroed or empty;
 -- its sectors are the lowest run that was free, and no other sector's mark changes; the name is new, and every other is found as before
-pub record Allocates (s : State) (o : Outcome) (desc : List ℕ) (k n l j : ℕ) : Type 0 where
+pub record Allocates (s : State) (o : Outcome) (desc : List ℕ) (k n l rc j : ℕ) : Type 0 where
   pub answered : o .answer ≡ Done (Moved 0)
   pub found : (exists (o .image) desc ≡ true) × (slotOf (o .image) desc ≡ j)
   pub was-unused : unused (entryAt (s .image) j) ≡ true
@@ -49,6 +49,7 @@ pub record Allocates (s : State) (o : Outcome) (desc : List ℕ) (k n l j : ℕ)
   pub its-name : described (entryAt (o .image) j) ≡ desc
   pub its-kind : kind (entryAt (o .image) j) ≡ k
   pub its-size : size (entryAt (o .image) j) ≡ n
+  pub its-read-code : readCode (entryAt (o .image) j) ≡ rc
   pub its-record-length : recordLength (entryAt (o .image) j) ≡ l
   pub zero-filled : k ≡ 0 → stored (o .image) (entryAt (o .image) j) ≡ blanks (256 * n)
   pub no-records : k ≡ 1 → records (o .image) (entryAt (o .image) j) ≡ []
@@ -64,8 +65,8 @@ pub record Allocates (s : State) (o : Outcome) (desc : List ℕ) (k n l j : ℕ)
 
 abbrev pub AcceptedAllocate : Type 0
 AcceptedAllocate =
-    (s : State) (caller : ℕ) (desc : List ℕ) (k n l : ℕ) → Accepts (Allocate caller desc k n l) s
-    → (j : ℕ) × Allocates s (step (Allocate caller desc k n l) s) desc k n l j
+    (s : State) (caller : ℕ) (desc : List ℕ) (k n l rc : ℕ) → Accepts (Allocate caller desc k n l rc) s
+    → (j : ℕ) × Allocates s (step (Allocate caller desc k n l rc) s) desc k n l rc j
 
 -- RULES, Delete: the name is found no more, and every other as before; all sectors that the file owned are free, and no others; what they
 -- hold is left as it is

@@ -11,7 +11,7 @@ use Rattle.front.specs.Areas.{areas-open}
 use Rattle.front.specs.Blocks.{request-open}
 use Rattle.front.specs.Front.{Served, Lent, lent, Ended, ended, front, front-open}
 use Rattle.promises.specs.Fronts.{Request, Iocb, Formats, Calls, leaves}
-use Rattle.promises.specs.Steps.{desc, service-open}
+use Rattle.promises.specs.Steps.{descOf, desc, service-open}
 
 -- what a request makes of what the last one left; only a block has areas
 over-bytes : Served → Ended
@@ -42,8 +42,8 @@ iocb code f high low num start end =
 pub requests : List Request
 requests =
     Formats (0x56 ∷ 0x4F ∷ 0x4C ∷ 0x31 ∷ []) 1
-    ∷ Calls (Allocate 5 (desc 89) 1 0 0)
-    ∷ Calls (Assign 5 0 (desc 89) 4 false)
+    ∷ Calls (Allocate 5 (desc 89) 1 0 0 9)
+    ∷ Calls (Assign 5 0 (desc 89) 4 false 8)
     -- "ABC" is written from bytes 1 to 3 of the task's area, read as record 0 into the shared segment's first four bytes, and asked for
     -- again up to a fifth byte that is not there
     ∷ Iocb 5 (iocb 0 2 0x00 0x08 0 1 3) (0x40 ∷ 0x41 ∷ 0x42 ∷ 0x43 ∷ 0x44 ∷ []) []
@@ -57,28 +57,28 @@ pub settledRequests : List (List ℕ)
 settledRequests =
     (0x00 ∷ 0 ∷ 0 ∷ 0 ∷ 0 ∷ 0 ∷ 0 ∷ 0 ∷ 0 ∷ 0 ∷ 0 ∷ 0 ∷ 0 ∷ [])
     ∷ (0x00 ∷ 0 ∷ 0 ∷ 0 ∷ 0 ∷ 0 ∷ 0 ∷ 0 ∷ 0 ∷ 0 ∷ 0 ∷ 0 ∷ 0 ∷ [])
-    -- mode 4, user 5, slot 0, Fresh
-    ∷ (0x00 ∷ 1 ∷ 4 ∷ 0 ∷ 5 ∷ 0 ∷ 0 ∷ 0 ∷ 0 ∷ 0 ∷ 0 ∷ 0 ∷ 0 ∷ [])
+    -- mode 4, user 5, slot 0, code 8, Fresh
+    ∷ (0x00 ∷ 1 ∷ 4 ∷ 0 ∷ 5 ∷ 0 ∷ 0 ∷ 8 ∷ 0 ∷ 0 ∷ 0 ∷ 0 ∷ 0 ∷ [])
     -- done, length 3; the areas are as they were; At 0, one moved
     ∷ (0x00
     ∷ (0 ∷ 2 ∷ 0x00 ∷ 0x08 ∷ 0x00 ∷ 0 ∷ 0xEE ∷ 0xEE ∷ 0 ∷ 0 ∷ 0 ∷ 0 ∷ 0 ∷ 0 ∷ 0 ∷ 1 ∷ 0 ∷ 0 ∷ 0 ∷ 3 ∷ 0 ∷ 0 ∷ 0 ∷ 3 ∷ 0xEE ∷ 0xEE ∷ 0xEE
     ∷ 0xEE ∷ [])
-    ++ (0x40 ∷ 0x41 ∷ 0x42 ∷ 0x43 ∷ 0x44 ∷ 1 ∷ 4 ∷ 0 ∷ 5 ∷ 0 ∷ 1 ∷ 0 ∷ 0 ∷ 0 ∷ 0 ∷ 0 ∷ 0 ∷ []))
+    ++ (0x40 ∷ 0x41 ∷ 0x42 ∷ 0x43 ∷ 0x44 ∷ 1 ∷ 4 ∷ 0 ∷ 5 ∷ 0 ∷ 1 ∷ 8 ∷ 0 ∷ 0 ∷ 0 ∷ 0 ∷ 0 ∷ []))
     -- done, length 3; the fourth byte stays
     ∷ (0x00
     ∷ (0 ∷ 1 ∷ 0x60 ∷ 0x08 ∷ 0x00 ∷ 0 ∷ 0xEE ∷ 0xEE ∷ 0 ∷ 0 ∷ 0 ∷ 0 ∷ 0x80 ∷ 0 ∷ 0 ∷ 0 ∷ 0x80 ∷ 0 ∷ 0 ∷ 3 ∷ 0 ∷ 0 ∷ 0 ∷ 3 ∷ 0xEE ∷ 0xEE
     ∷ 0xEE ∷ 0xEE ∷ [])
-    ++ (0x40 ∷ 0x41 ∷ 0x42 ∷ 0x43 ∷ 0xDD ∷ 1 ∷ 4 ∷ 0 ∷ 5 ∷ 0 ∷ 1 ∷ 0 ∷ 0 ∷ 0 ∷ 0 ∷ 0 ∷ 0 ∷ []))
+    ++ (0x40 ∷ 0x41 ∷ 0x42 ∷ 0x43 ∷ 0xDD ∷ 1 ∷ 4 ∷ 0 ∷ 5 ∷ 0 ∷ 1 ∷ 8 ∷ 0 ∷ 0 ∷ 0 ∷ 0 ∷ 0 ∷ []))
     -- $84, length 0; nothing else changes
     ∷ (0x84
     ∷ (0 ∷ 1 ∷ 0x60 ∷ 0x08 ∷ 0x84 ∷ 0 ∷ 0xEE ∷ 0xEE ∷ 0 ∷ 0 ∷ 0 ∷ 0 ∷ 0x80 ∷ 0 ∷ 0 ∷ 0 ∷ 0x80 ∷ 0 ∷ 0 ∷ 4 ∷ 0 ∷ 0 ∷ 0 ∷ 0 ∷ 0xEE ∷ 0xEE
     ∷ 0xEE ∷ 0xEE ∷ [])
-    ++ (0x40 ∷ 0xDD ∷ 0xDD ∷ 0xDD ∷ 0xDD ∷ 1 ∷ 4 ∷ 0 ∷ 5 ∷ 0 ∷ 1 ∷ 0 ∷ 0 ∷ 0 ∷ 0 ∷ 0 ∷ 0 ∷ []))
+    ++ (0x40 ∷ 0xDD ∷ 0xDD ∷ 0xDD ∷ 0xDD ∷ 1 ∷ 4 ∷ 0 ∷ 5 ∷ 0 ∷ 1 ∷ 8 ∷ 0 ∷ 0 ∷ 0 ∷ 0 ∷ 0 ∷ []))
     -- done, length 0; Fresh
     ∷ (0x00
     ∷ (1 ∷ 2 ∷ 0x00 ∷ 0x00 ∷ 0x00 ∷ 0 ∷ 0xEE ∷ 0xEE ∷ 0 ∷ 0 ∷ 0 ∷ 0 ∷ 0 ∷ 0 ∷ 0 ∷ 9 ∷ 0 ∷ 0 ∷ 0 ∷ 0 ∷ 0 ∷ 0 ∷ 0 ∷ 0 ∷ 0xEE ∷ 0xEE ∷ 0xEE
     ∷ 0xEE ∷ [])
-    ++ (1 ∷ 4 ∷ 0 ∷ 5 ∷ 0 ∷ 0 ∷ 0 ∷ 0 ∷ 0 ∷ 0 ∷ 0 ∷ 0 ∷ []))
+    ++ (1 ∷ 4 ∷ 0 ∷ 5 ∷ 0 ∷ 0 ∷ 8 ∷ 0 ∷ 0 ∷ 0 ∷ 0 ∷ 0 ∷ []))
     ∷ []
 
 unfoldable pub begun : Ended
@@ -91,6 +91,6 @@ abbrev pub FrontSteps : Type 0
 FrontSteps = answered ≡ settledRequests
 
 pub front-steps : FrontSteps
-unfolding answered followed requests settledRequests begun shown left-by over-bytes iocb leaves desc request-open areas-open front-open
-    desk-bytes-open service-open
+unfolding answered followed requests settledRequests begun shown left-by over-bytes iocb leaves descOf desc request-open areas-open
+    front-open desk-bytes-open service-open
 front-steps = refl

@@ -213,12 +213,7 @@ pub record SameRun (rs : List Request) (img : List ℕ) (bs : List ℕ) (s : Sta
   pub desks : bytesAfter rs img bs ≡ packedDesk (s .desk)
   pub is-plain : PlainDesk (s .desk)
 
-abbrev pub RequestsAreRuns : Type 0
-RequestsAreRuns =
-    (rs : List Request) (s : State) → PlainDesk (s .desk)
-    → SameRun rs (s .image) (packedDesk (s .desk)) (run (callsMade rs (s .image) (packedDesk (s .desk))) s)
-
--- Demand 3: "From a formatted volume and any calls, each given the image and desk that the last one left", through the front
+-- what requests send is bytes
 abbrev pub BytesSent : Request → Type 0
 BytesSent (Iocb caller b t s) = Bytes t × Bytes s
 BytesSent (Formats id n) = Bytes id
@@ -228,6 +223,12 @@ abbrev pub RequestBytes : List Request → Type 0
 RequestBytes [] = Unit {0}
 RequestBytes (r ∷ rs) = BytesSent r × RequestBytes rs
 
+abbrev pub RequestsAreRuns : Type 0
+RequestsAreRuns =
+    (rs : List Request) (s : State) → PlainDesk (s .desk) → RequestBytes rs
+    → SameRun rs (s .image) (packedDesk (s .desk)) (run (callsMade rs (s .image) (packedDesk (s .desk))) s)
+
+-- Demand 3: "From a formatted volume and any calls, each given the image and desk that the last one left", through the front
 abbrev pub FrontStaysGood : Type 0
 FrontStaysGood =
     (id : List ℕ) (n : ℕ) (img bs : List ℕ) → serveFormat id n img bs .returned ≡ 0x00 → (rs : List Request) → RequestBytes rs

@@ -14,4 +14,5 @@ pub mod Seating
 pub mod Counts
 pub mod Conclusions
 pub mod DeskBytes
+pub mod Private
 pub mod Demands

@@ -5,7 +5,7 @@ use mathlib.Core.Path.{_≡_, refl}
 use Prim.Native.Nat.{ℕ}
 use lib.ListN.{replicate, take, drop, getD}
 use Rattle.lists.specs.Lists.{same, flat, lists-open}
-use Rattle.lists.specs.Parts.{parts-open}
+use Rattle.lists.specs.Parts.{part, parts-open}
 use Rattle.text.specs.Packing.{packing-open}
 use Rattle.volume.specs.Volume.{sat, trailer, volume-open}
 use Rattle.volume.specs.Sat.{one, free, sat-open}
@@ -47,15 +47,21 @@ shown (t ∷ ts) (o ∷ os) = (status (o .answer) ∷ moved (o .answer) ∷ t .l
 followed : List Step → State → List (List ℕ)
 followed ts s = shown ts (trace (calls ts) s)
 
--- user 5, no catalog, a filename of one letter, extension A
+-- a user below 256, no catalog, a filename of one letter, extension A; the same of user 5
+unfoldable pub descOf : ℕ → ℕ → List ℕ
+descOf user c = 0 ∷ user ∷ (replicate 8 32 ++ (c ∷ replicate 7 32 ++ (65 ∷ 32 ∷ [])))
+
 unfoldable pub desc : ℕ → List ℕ
-desc c = 0 ∷ 5 ∷ (replicate 8 32 ++ (c ∷ replicate 7 32 ++ (65 ∷ 32 ∷ [])))
+desc = descOf 5
 
 -- the SAT's bytes 0 and 1, and whether all others are FF
 pub sat2 : List ℕ → List ℕ
 sat2 img = take 2 (sat img) ++ (one (same (drop 2 (sat img)) (replicate 254 0xFF)) ∷ [])
 
--- slot k's first sector or access block; E; the segments; the physical sector of logical sector 1
+-- slot k's bytes 22-23; its first sector or access block; E; the segments; the physical sector of logical sector 1
+pub codeBytes : ℕ → List ℕ → List ℕ
+codeBytes k img = part 22 2 (entryAt img k)
+
 pub at : ℕ → List ℕ → ℕ
 at k img = start (entryAt img k)
 
@@ -85,10 +91,10 @@ story =
       look = λ img. take 8 (trailer img) ++ (sat2 img ++ (free img ∷ []));
     }
     -- 2, 3
-    ∷ record { call = Allocate 5 (desc 88) 0 3 0; look = λ img. at 0 img ∷ sat2 img }
-    ∷ record { call = Allocate 5 (desc 89) 1 0 0; look = λ img. at 1 img ∷ bytesIn 1 img ∷ (segments 1 img ++ sat2 img) }
+    ∷ record { call = Allocate 5 (desc 88) 0 3 0 0; look = λ img. at 0 img ∷ sat2 img }
+    ∷ record { call = Allocate 5 (desc 89) 1 0 0 0; look = λ img. at 1 img ∷ bytesIn 1 img ∷ (segments 1 img ++ sat2 img) }
     -- 4
-    ∷ record { call = Assign 5 0 (desc 89) 4 false; look = λ img. [] }
+    ∷ record { call = Assign 5 0 (desc 89) 4 false 0; look = λ img. [] }
     ∷ record {
       call = Write 5 0 0 0 false (0x41 ∷ 0x42 ∷ 0x43 ∷ []);
       look = λ img. stream img (entryAt img 1) ++ (bytesIn 1 img ∷ (segments 1 img ++ sat2 img));
@@ -100,17 +106,27 @@ story =
       look = λ img. bytesIn 1 img ∷ (segments 1 img ++ (sat2 img ++ (second 1 img ∷ free img ∷ [])));
     }
     -- 7 and 8 are asked of the volume after step 6: the refused ones, which leave it, come first
-    ∷ record { call = Allocate 5 (desc 88) 0 8 0; look = λ img. free img ∷ [] }
+    ∷ record { call = Allocate 5 (desc 88) 0 8 0 0; look = λ img. free img ∷ [] }
     ∷ record { call = Write 5 0 3 3 false (0x41 ∷ []); look = λ img. [] }
     ∷ record { call = Write 5 0 3 1 false (0x41 ∷ []); look = λ img. [] }
     ∷ record { call = Update 5 0 3 0 false (replicate 4 0x41); look = λ img. [] }
-    ∷ record { call = Allocate 5 (desc 88) 0 7 0; look = λ img. at 0 img ∷ [] }
+    ∷ record { call = Allocate 5 (desc 88) 0 7 0 0; look = λ img. at 0 img ∷ [] }
     -- 11
     ∷ record { call = Write 5 0 3 2 true (replicate 129 0x20); look = λ img. bytesIn 1 img ∷ free img ∷ added img }
     ∷ record { call = Read 5 0 1 0 true (replicate 128 0xEE); look = λ img. [] }
     ∷ record { call = Update 5 0 1 0 true (replicate 128 0x20); look = added }
     ∷ record { call = Read 5 0 1 0 true (replicate 128 0xEE); look = λ img. [] }
     ∷ record { call = Update 5 0 1 0 true (replicate 2 0x20); look = λ img. [] }
+    -- 13: file Z goes to slot 2; users 6, 0 and 5 ask for it
+    ∷ record { call = Allocate 0 (descOf 0 90) 1 0 0 7; look = λ img. [] }
+    ∷ record { call = Allocate 5 (desc 90) 1 0 0 7; look = codeBytes 2 }
+    ∷ record { call = Assign 6 1 (desc 90) 0 false 0; look = λ img. [] }
+    ∷ record { call = Assign 6 1 (desc 90) 4 false 8; look = λ img. [] }
+    ∷ record { call = Assign 6 1 (desc 90) 4 false 7; look = λ img. [] }
+    ∷ record { call = Assign 6 1 (desc 90) 2 false 0; look = λ img. [] }
+    ∷ record { call = Assign 6 1 (desc 90) 0 false 7; look = λ img. [] }
+    ∷ record { call = Assign 0 2 (desc 90) 0 false 0; look = λ img. [] }
+    ∷ record { call = Assign 5 3 (desc 90) 4 false 0; look = λ img. [] }
     ∷ []
 
 -- 9 asks the modes alone
@@ -147,6 +163,17 @@ settled =
     ∷ (0 ∷ 128 ∷ 0x00 ∷ 0x02 ∷ 0xFF ∷ 0x20 ∷ [])
     ∷ (0 ∷ 128 ∷ [])
     ∷ (0x61 ∷ 0 ∷ [])
+    -- 13: a file of user 0 has no code; bytes 22-23; PR with no code; PRPW with a wrong code, and with the right one; PW needs none; PR
+    -- with the right code; user 0 and the owner need none
+    ∷ (0x60 ∷ 0 ∷ [])
+    ∷ (0 ∷ 0 ∷ 0x00 ∷ 0x07 ∷ [])
+    ∷ (0x07 ∷ 0 ∷ [])
+    ∷ (0x07 ∷ 0 ∷ [])
+    ∷ (0x0B ∷ 0 ∷ [])
+    ∷ (0x0B ∷ 0 ∷ [])
+    ∷ (0 ∷ 0 ∷ [])
+    ∷ (0 ∷ 0 ∷ [])
+    ∷ (0 ∷ 0 ∷ [])
     -- 9: PR and EW are compatible, PR and ER are not
     ∷ (1 ∷ [])
     ∷ (0 ∷ [])
@@ -163,5 +190,5 @@ unfolding lists-open parts-open packing-open names-open volume-open directory-op
 service-open = tt
 
 pub small-volume : SmallVolume
-unfolding steps settled story blank followed shown trace next desc sat2 at bytesIn segments second added service-open
+unfolding steps settled story blank followed shown trace next descOf desc sat2 codeBytes at bytesIn segments second added service-open
 small-volume = refl

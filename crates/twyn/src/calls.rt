@@ -9,7 +9,15 @@ pub(crate) fn change(d: Desk, image: &mut [u8], call: Call, data: &[u8]) -> Repl
     let command = call.command;
     match command {
         script::FORMAT => d.format(image, data, call.two),
-        script::ALLOCATE => d.allocate(image, call.one, data, call.three, call.four, call.five),
+        script::ALLOCATE => d.allocate(
+            image,
+            call.one,
+            data,
+            call.three,
+            call.four,
+            call.five,
+            call.code,
+        ),
         script::DELETE => d.delete(image, call.one, data),
         script::WRITE | script::WRITE_TEXT => d.write(
             image,
@@ -37,7 +45,15 @@ pub(crate) fn ask(d: Desk, image: &[u8], call: Call, data: &[u8]) -> Reply {
     let command = call.command;
     match command {
         script::CHECK => d.check(image),
-        script::ASSIGN => d.assign(image, call.one, call.two, data, call.four, call.five == 1),
+        script::ASSIGN => d.assign(
+            image,
+            call.one,
+            call.two,
+            data,
+            call.four,
+            call.five == 1,
+            call.code,
+        ),
         script::CLOSE => d.close(image, call.one, call.two),
         _ => d.rewind(image, call.one, call.two),
     }

@@ -22,7 +22,8 @@ fn unit(t: Text, u: Lun) -> Text {
     place(
         t.number(u.user as u64)
             .number(u.slot as u64)
-            .number(m.number() as u64),
+            .number(m.number() as u64)
+            .number(u.offered as u64),
         p,
     )
 }

@@ -57,8 +57,8 @@ pub(crate) struct Lent {
     pub(crate) shared: words::Bytes,
 }
 
-/// A parsed line: its numbers by their places among the words, 0 where none stands, whether its transfer is of a text, its bytes,
-/// the first `count` of `data`, and what its request lends.
+/// A parsed line: its numbers by their places among the words, 0 where none stands, its read-protect code, whether its transfer is
+/// of a text, its bytes, the first `count` of `data`, and what its request lends.
 pub(crate) struct Call {
     pub(crate) command: usize,
     pub(crate) one: u32,
@@ -66,6 +66,7 @@ pub(crate) struct Call {
     pub(crate) three: u32,
     pub(crate) four: u32,
     pub(crate) five: u32,
+    pub(crate) code: u8,
     pub(crate) formatted: bool,
     pub(crate) count: usize,
     pub(crate) data: [u8; 8192],
@@ -87,7 +88,7 @@ fn named(word: &[u8]) -> usize {
     k
 }
 
-// How many words a command has, with its name.
+// How many words a command has, with its name. The seventh, a read-protect code, may be left out.
 fn words_of(command: usize) -> usize {
     match command {
         UNREADABLE => 0,
@@ -95,6 +96,7 @@ fn words_of(command: usize) -> usize {
         NEW | SECTOR => 2,
         POKE | FORMAT | DELETE | CLOSE | REWIND => 3,
         IOCB => 5,
+        ALLOCATE | ASSIGN => 7,
         _ => 6,
     }
 }
@@ -179,12 +181,15 @@ pub(crate) fn parsed(line: &[u8], over: bool) -> Call {
     let three = number(line, words, at, block, 3);
     let four = number(line, words, at, block, 4);
     let five = number(line, words, at, block, 5);
+    // Of another command than `allocate` and `assign` a seventh word is one too many, whatever it says.
+    let code = words::read_code_of(words::word(line, 6));
     let brought = bytes(line, at);
     let areas = lent_at(line, block);
     let more = words::word(line, words).len() != 0;
     let flag = (command != ASSIGN) | (five.value <= 1);
     let whole = areas.block.ok & areas.task.ok & areas.shared.ok;
-    let ok = one.ok & two.ok & three.ok & four.ok & five.ok & brought.ok & whole & !more & flag;
+    let numbers = one.ok & two.ok & three.ok & four.ok & five.ok & code.ok;
+    let ok = numbers & brought.ok & whole & !more & flag;
     let data = brought.bytes;
     Call {
         command: judged(command, ok, line.len() == 0, over),
@@ -193,6 +198,7 @@ pub(crate) fn parsed(line: &[u8], over: bool) -> Call {
         three: three.value,
         four: four.value,
         five: five.value,
+        code: code.value,
         formatted: is_formatted(command),
         count: brought.count,
         data: data,

@@ -10,6 +10,12 @@ pub(crate) struct Number {
     pub(crate) value: u32,
 }
 
+/// A read-protect code read from a word, if `ok`.
+pub(crate) struct ReadCode {
+    pub(crate) ok: bool,
+    pub(crate) value: u8,
+}
+
 /// The bytes read from a word, if `ok`: the first `count` of them.
 pub(crate) struct Bytes {
     pub(crate) ok: bool,
@@ -85,6 +91,15 @@ pub(crate) fn number_of(word: &[u8]) -> Number {
     Number {
         ok: ok,
         value: value as u32,
+    }
+}
+
+/// The read-protect code that the word says: 0 to 255. Without a word it is 0, so that whoever has no code need not say one.
+pub(crate) fn read_code_of(word: &[u8]) -> ReadCode {
+    let n = number_of(word);
+    ReadCode {
+        ok: (word.len() == 0) | (n.ok & (n.value <= 255)),
+        value: (n.value % 256) as u8,
     }
 }
 

@@ -34,6 +34,10 @@ owner e = word e 2
 unfoldable pub described : List ℕ → List ℕ
 described e = part 2 20 e
 
+-- RULES, The directory: byte 23 is the read-protect code
+abbrev pub readCode : List ℕ → ℕ
+readCode e = byte e 23
+
 -- RULES, The directory: bytes 24-25 are the record length, 26-27 the first sector or the access block's, 28-29 the sectors
 abbrev pub recordLength : List ℕ → ℕ
 recordLength e = word e 24
@@ -44,32 +48,37 @@ start e = word e 26
 abbrev pub size : List ℕ → ℕ
 size e = word e 28
 
--- the fields of an entry in use, and the entry that has them; RULES, The directory: byte 0 is 1, bytes 22-23 and 30-31 are zero
+-- the fields of an entry in use, and the entry that has them; RULES, The directory: byte 0 is 1, bytes 22 and 30-31 are zero
 pub record Fields : Type 0 where
   pub kind : ℕ
   pub described : List ℕ
+  pub readCode : ℕ
   pub recordLength : ℕ
   pub start : ℕ
   pub size : ℕ
 
-abbrev pub fields : ℕ → List ℕ → ℕ → ℕ → ℕ → Fields
-fields k d l s n = record { kind = k; described = d; recordLength = l; start = s; size = n }
+abbrev pub fields : ℕ → List ℕ → ℕ → ℕ → ℕ → ℕ → Fields
+fields k d rc l s n = record { kind = k; described = d; readCode = rc; recordLength = l; start = s; size = n }
 
 unfoldable pub entry : Fields → List ℕ
 entry f =
     1 ∷ f .kind ∷ (f .described
-    ++ (0 ∷ 0 ∷ (bytes2 (f .recordLength) ++ (bytes2 (f .start) ++ (bytes2 (f .size) ++ (0 ∷ 0 ∷ []))))))
+    ++ (0 ∷ f .readCode ∷ (bytes2 (f .recordLength) ++ (bytes2 (f .start) ++ (bytes2 (f .size) ++ (0 ∷ 0 ∷ []))))))
 
 -- RULES, The directory: sectors and record length of a contiguous and of a sequential file
 abbrev pub extentGood : List ℕ → Bool
 extentGood e =
     if contiguous e then leb 1 (size e) and eqb (recordLength e) 0 else eqb (size e) 0 and leb (recordLength e) recordLimit
 
+-- RULES, The directory: files of user 0 have code 0
+unfoldable pub codeAllowed : ℕ → ℕ → Bool
+codeAllowed user rc = not (eqb user 0) or eqb rc 0
+
 -- RULES, The directory: what a valid entry holds
 unfoldable pub valid : List ℕ → Bool
 valid e =
-    eqb (byte e 0) 1 and leb (kind e) 1 and descriptor (described e) and eqb (word e 22) 0 and eqb (word e 30) 0
-    and extentGood e
+    eqb (byte e 0) 1 and leb (kind e) 1 and descriptor (described e) and eqb (byte e 22) 0 and codeAllowed (owner e) (readCode e)
+    and eqb (word e 30) 0 and extentGood e
 
 -- RULES, Names and descriptors: the entry whose bytes 2-21 equal a descriptor; RULES, The directory: two entries that clash
 unfoldable pub named : List ℕ → List ℕ → Bool
@@ -91,5 +100,5 @@ unfoldable pub putEntry : List ℕ → ℕ → List ℕ → List ℕ → List �
 putEntry v k e img = put (256 * dirAt v + 32 * k) e img
 
 unfoldable pub directory-open : Unit {0}
-unfolding entries entryAt contiguous described entry valid named clashes namesDiffer sound2 putEntry
+unfolding entries entryAt contiguous described entry codeAllowed valid named clashes namesDiffer sound2 putEntry
 directory-open = tt

@@ -2,8 +2,8 @@
 ghost use Rattle.lists.specs.Lists.{_or_, all, index};
 ghost use mathlib.Core.Path.{_≡_};
 ghost use Prim.Native.Nat.{_+_, _*_, _<_, _≤_};
-ghost use Rattle.volume.specs.Directory.{entryAt, unused, kind, contiguous, owner, recordLength, start, size, fields, entry};
-ghost use Rattle.volume.specs.Directory.{extentGood, valid, entries, clashes, namesDiffer, sound2, named};
+ghost use Rattle.volume.specs.Directory.{entryAt, unused, kind, contiguous, owner, readCode, codeAllowed, recordLength, start, size};
+ghost use Rattle.volume.specs.Directory.{fields, entry, extentGood, valid, entries, clashes, namesDiffer, sound2, named};
 ghost use Rattle.volume.specs.Code.Located.{Located, entryByte, EntryIn};
 ghost use lib.ListN.{length, drop};
 ghost use Rattle.numbers.specs.Numbers.{mostSectors, mostDirs};
@@ -76,6 +76,14 @@ pub fn owner(e: &[u8]) -> usize
     word_at(e, 2)
 }
 
+/// The read-protect code.
+pub fn read_code(e: &[u8]) -> u8
+    requires { ⌜ length (now e) ≡ 32 ⌝ }
+    ensures { λ r. ⌜ r ≡ readCode (now (e .entry)) ⌝ }
+{
+    e[23]
+}
+
 pub fn record_length(e: &[u8]) -> usize
     requires { ⌜ length (now e) ≡ 32 ⌝ }
     ensures { λ r. ⌜ (r ≡ recordLength (now (e .entry))) × (r < 65536) ⌝ }
@@ -112,6 +120,13 @@ fn extent_good(e: &[u8]) -> bool
     (n == 0) & (long <= RECORD_LIMIT)
 }
 
+/// Whether a file of this user may have this read-protect code: user 0's have none.
+pub fn code_allowed(user: usize, read_code: u8) -> bool
+    ensures { λ r. ⌜ r ≡ codeAllowed user «read_code» ⌝ }
+{
+    (user != 0) | (read_code == 0)
+}
+
 /// A used entry's fields are in range.
 pub fn valid(e: &[u8]) -> bool
     requires { ⌜ length (now e) ≡ 32 ⌝ }
@@ -120,7 +135,8 @@ pub fn valid(e: &[u8]) -> bool
     (e[0] == 1)
         & (kind(e) <= 1)
         & descriptor(&e[2..22])
-        & (word_at(e, 22) == 0)
+        & (e[22] == 0)
+        & code_allowed(owner(e), read_code(e))
         & (word_at(e, 30) == 0)
         & extent_good(e)
 }
@@ -249,43 +265,55 @@ pub fn lowest_unused(img: &[u8], p: Layout) -> Found
 }
 
 // What stands after the descriptor.
-fn put_numbers(part: &mut [u8], len: usize, s: usize, n: usize)
+fn put_numbers(part: &mut [u8], read_code: u8, len: usize, s: usize, n: usize)
     requires { ⌜ (length (now part) ≡ 32) × (len < 65536) × (s < 65536) × (n < 65536) ⌝ }
-    ensures { λ _. ⌜ now (part .exit) ≡ put 22 (0 ∷ 0 ∷ (bytes2 len ++ (bytes2 s ++ (bytes2 n ++ (0 ∷ 0 ∷ []))))) (now (part .entry)) ⌝ }
+    ensures { λ _. ⌜ now (part .exit)
+        ≡ put 22 (0 ∷ «read_code» ∷ (bytes2 len ++ (bytes2 s ++ (bytes2 n ++ (0 ∷ 0 ∷ []))))) (now (part .entry)) ⌝ }
 {
-    put_word(part, 22, 0);
+    put_word(part, 22, wide(read_code));
     put_word(part, 24, len);
     put_word(part, 26, s);
     put_word(part, 28, n);
     put_word(part, 30, 0);
 }
 
-fn put_fields(part: &mut [u8], desc: &[u8], kind: usize, len: usize, s: usize, n: usize)
+fn put_fields(
+    part: &mut [u8],
+    desc: &[u8],
+    kind: usize,
+    read_code: u8,
+    len: usize,
+    s: usize,
+    n: usize,
+)
     requires { ⌜ (length (now part) ≡ 32) × (length (now desc) ≡ 20) × (kind ≤ 1) × (len < 65536) × (s < 65536) × (n < 65536) ⌝ }
-    ensures { λ _. ⌜ now (part .exit) ≡ entry (fields kind (now (desc .entry)) len s n) ⌝ }
+    ensures { λ _. ⌜ now (part .exit) ≡ entry (fields kind (now (desc .entry)) «read_code» len s n) ⌝ }
 {
     put_word(part, 0, 256 + kind);
     copy_in(&mut part[2..22], desc);
-    put_numbers(part, len, s, n);
+    put_numbers(part, read_code, len, s, n);
 }
 
-/// Writes an entry of these fields in slot k: the kind, the record length, the first sector and the number of sectors.
+/// Writes an entry of these fields in slot k: the kind, the read-protect code, the record length, the first sector and the number of
+/// sectors.
 pub fn put_entry(
     img: &mut [u8],
     p: Layout,
     k: usize,
     desc: &[u8],
     kind: usize,
+    read_code: u8,
     len: usize,
     s: usize,
     n: usize,
 )
     requires { ⌜ EntryIn (now img) p k × (length (now desc) ≡ 20) × (kind ≤ 1) × (len < 65536) × (s < 65536) × (n < 65536) ⌝ }
-    ensures { λ _. ⌜ now (img .exit) ≡ put (entryByte p k) (entry (fields kind (now (desc .entry)) len s n)) (now (img .entry)) ⌝ }
+    ensures { λ _. ⌜ now (img .exit)
+        ≡ put (entryByte p k) (entry (fields kind (now (desc .entry)) «read_code» len s n)) (now (img .entry)) ⌝ }
 {
     let a = entry_at(p, k);
     let e = a + 32;
-    put_fields(&mut img[a..e], desc, kind, len, s, n);
+    put_fields(&mut img[a..e], desc, kind, read_code, len, s, n);
 }
 
 /// Makes the entry in slot k an unused one.

@@ -9,8 +9,8 @@ use borrow.Author.Tests.{le-leb, lt-leb}
 use Rattle.numbers.specs.Numbers.{mostSectors}
 use Rattle.lists.specs.Lists.{some, index}
 use Rattle.lists.specs.Parts.{sectors}
-use Rattle.volume.specs.Names.{descriptor}
-use Rattle.volume.specs.Directory.{entries, unused}
+use Rattle.volume.specs.Names.{descriptor, userOf}
+use Rattle.volume.specs.Directory.{entries, unused, codeAllowed}
 use Rattle.volume.specs.Sat.{lowestRun}
 use Rattle.volume.specs.Code.Located.{Located}
 use Rattle.volume.specs.declared.locate.Layout.{Layout}
@@ -31,14 +31,15 @@ sized-taken k n l h = go (sizes k n l h)
     go (records-of a b c) = rw a (omega arith, omega arith)
 
 -- the lowest unused entry and the lowest run are room for it
-module _ (img : List ℕ) (p : Layout) (desc : List ℕ) (k n l slot s : ℕ) where
+module _ (img : List ℕ) (p : Layout) (desc : List ℕ) (k n l rc slot s : ℕ) where
   pub room-found : Located img p → sound img ≡ true → descriptor desc ≡ true → exists img desc ≡ false → k ≤ 1 → sized k n l ≡ true
-      → some unused (entries img) ≡ true → index unused (entries img) ≡ slot → s ≡ lowestRun (taken k n) img → s < p .t → Room img p slot desc k n l s
+      → codeAllowed (userOf desc) rc ≡ true → some unused (entries img) ≡ true → index unused (entries img) ≡ slot → s ≡ lowestRun (taken k n) img → s < p .t
+      → Room img p slot desc k n l s
   unfolding exists sized
-  room-found h a b c e f u is at low =
+  room-found h a b c e f g u is at low =
       rw (sym is, at)
-      (room img p (index unused (entries img)) desc k n l (lowestRun (taken k n) img) h
-      (allocatable img desc k n l a u b c e f (omega (arith, at, low, h .is-t))))
+      (room img p (index unused (entries img)) desc k n l rc (lowestRun (taken k n) img) h
+      (allocatable img desc k n l rc a u b c e f g (omega (arith, at, low, h .is-t))))
 
 -- there is a run exactly where the search stops inside
 module _ (img : List ℕ) (p : Layout) (k n s : ℕ) (h : Located img p) (at : s ≡ lowestRun (taken k n) img) where

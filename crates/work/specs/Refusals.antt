@@ -4,14 +4,15 @@ use mathlib.Core.List.{List, [], _∷_}
 use Prim.Native.Nat.{ℕ}
 use Rattle.lists.specs.Lists.{if_then_else_}
 use Rattle.work.specs.declared.Refusal.{Refusal}
-use Rattle.work.specs.declared.Refusal.the-variants.{UnknownType, BadLun, NoRight, InUse, NoFile, BadRequest, BadLength, PastEnd}
-use Rattle.work.specs.declared.Refusal.the-variants.{OutOfRange, OtherLength, Exists, NoRoom, BadDescriptor, NoSegment, NameTaken}
-use Rattle.work.specs.declared.Refusal.the-variants.{DirectoryFull, NotSound}
+use Rattle.work.specs.declared.Refusal.the-variants.{UnknownType, BadLun, WrongCode, NoRight, InUse, NoFile, BadRequest, BadLength}
+use Rattle.work.specs.declared.Refusal.the-variants.{PastEnd, OutOfRange, OtherLength, Exists, NoRoom, BadDescriptor, NoSegment}
+use Rattle.work.specs.declared.Refusal.the-variants.{NameTaken, DirectoryFull, NotSound}
 
 -- RULES, Status numbers
 abbrev pub code : Refusal → ℕ
 code UnknownType = 0x02
 code BadLun = 0x03
+code WrongCode = 0x07
 code NoRight = 0x0B
 code InUse = 0x0D
 code NoFile = 0x17

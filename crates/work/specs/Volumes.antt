@@ -9,7 +9,7 @@ use Rattle.lists.specs.Lists.{_and_, if_then_else_, index, some}
 use Rattle.lists.specs.Parts.{sectors}
 use Rattle.volume.specs.Names.{volumeId, descriptor, userOf}
 use Rattle.volume.specs.Volume.{inRange}
-use Rattle.volume.specs.Directory.{entries, named, unused}
+use Rattle.volume.specs.Directory.{entries, named, unused, codeAllowed}
 use Rattle.volume.specs.Sat.{lowestRun}
 use Rattle.files.specs.Changes.{taken, allocated}
 use Rattle.files.specs.Rights.{hasRight}
@@ -32,7 +32,7 @@ exists img desc = some (named desc) (entries img)
 unfoldable pub namedRules : List ℕ → List ℕ → List Rule
 namedRules img desc = BadDescriptor if not (descriptor desc) ∷ NoFile if not (exists img desc) ∷ []
 
--- RULES, Status numbers: $60 of allocate: size and record length by the type
+-- RULES, Status numbers: $60 of allocate: size and record length by the type; `codeAllowed` of the directory has the code
 unfoldable pub sized : ℕ → ℕ → ℕ → Bool
 sized k n l = if eqb k 0 then leb 1 n and leb n mostSectors and eqb l 0 else eqb n 0 and leb l recordLimit
 
@@ -44,18 +44,18 @@ placeRules img k n =
     ∷ []
 
 -- RULES, Orders of refusals: allocate, from $64 on: $64, $02, $60, $0B, $66, $67, $63
-unfoldable pub allocateRules : List ℕ → ℕ → List ℕ → ℕ → ℕ → ℕ → List Rule
-allocateRules img caller desc k n l =
+unfoldable pub allocateRules : List ℕ → ℕ → List ℕ → ℕ → ℕ → ℕ → ℕ → List Rule
+allocateRules img caller desc k n l rc =
     BadDescriptor if not (descriptor desc)
     ∷ UnknownType if ltb 1 k
-    ∷ OutOfRange if not (sized k n l)
+    ∷ OutOfRange if not (sized k n l and codeAllowed (userOf desc) rc)
     ∷ NoRight if not (hasRight caller (userOf desc))
     ∷ NameTaken if exists img desc
     ∷ placeRules img k n
 
 -- RULES, Allocate: the lowest unused entry, and the lowest free run: what becomes of the image
-unfoldable pub newFile : List ℕ → List ℕ → ℕ → ℕ → ℕ → List ℕ
-newFile img desc k n l = allocated (index unused (entries img)) desc k n l (lowestRun (taken k n) img) img
+unfoldable pub newFile : List ℕ → List ℕ → ℕ → ℕ → ℕ → ℕ → List ℕ
+newFile img desc k n l rc = allocated (index unused (entries img)) desc k n l rc (lowestRun (taken k n) img) img
 
 unfoldable pub volumes-open : Unit {0}
 unfolding formatRules slotOf exists namedRules sized placeRules allocateRules newFile

@@ -13,6 +13,7 @@ pub mod writing;
 pub enum Refusal {
     UnknownType,
     BadLun,
+    WrongCode,
     NoRight,
     InUse,
     NoFile,

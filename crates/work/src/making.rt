@@ -3,7 +3,8 @@ ghost use mathlib.Core.Path.{_≡_};
 ghost use mathlib.Core.Bool.{true, false};
 ghost use mathlib.Core.List.{[]};
 ghost use Prim.Native.Nat.{_≤_};
-ghost use Rattle.volume.specs.Names.{descriptor};
+ghost use Rattle.volume.specs.Names.{descriptor, userOf};
+ghost use Rattle.volume.specs.Directory.{codeAllowed};
 ghost use Rattle.volume.specs.Code.Located.{Located};
 ghost use Rattle.files.specs.Files.{sound};
 ghost use Rattle.work.specs.Volumes.{exists, sized};
@@ -16,6 +17,7 @@ use files::rights::has_right;
 use numbers::MOST_SECTORS;
 use numbers::RECORD_LIMIT;
 use volume::directory::Found;
+use volume::directory::code_allowed;
 use volume::directory::find;
 use volume::directory::lowest_unused;
 use volume::locate::Layout;
@@ -40,10 +42,12 @@ fn place(
     kind: usize,
     size: usize,
     record: usize,
+    read_code: u8,
 ) -> Worked
     requires { ⌜ Located (now image) p × (sound (now image) ≡ true) × (descriptor (now desc) ≡ true)
-        × (exists (now image) (now desc) ≡ false) × (kind ≤ 1) × (sized kind size «record» ≡ true) ⌝ }
-    ensures { λ r. ⌜ deed r (now (image .exit)) [] ≡ placeDeed (now (image .entry)) (now (desc .entry)) kind size «record» ⌝ }
+        × (exists (now image) (now desc) ≡ false) × (kind ≤ 1) × (sized kind size «record» ≡ true)
+        × (codeAllowed (userOf (now desc)) «read_code» ≡ true) ⌝ }
+    ensures { λ r. ⌜ deed r (now (image .exit)) [] ≡ placeDeed (now (image .entry)) (now (desc .entry)) kind size «record» «read_code» ⌝ }
 {
     let Found::At(slot) = lowest_unused(image, p) else {
         return Worked::Denied(Refusal::DirectoryFull);
@@ -53,7 +57,7 @@ fn place(
     if t <= s {
         return Worked::Denied(Refusal::NoRoom);
     }
-    allocation::allocate(image, p, slot, desc, kind, size, record, s);
+    allocation::allocate(image, p, slot, desc, kind, size, record, read_code, s);
     Worked::Did {
         bytes: 0,
         from: 0,
@@ -61,9 +65,9 @@ fn place(
     }
 }
 
-/// Makes a file of kind 0, contiguous, of this size, or of kind 1, sequential, of this record length, 0 for variable ones. Refuses the
-/// descriptor, the kind, the numbers, a caller without the right, a name that is taken, a full directory, and a volume without such a
-/// run.
+/// Makes a file of kind 0, contiguous, of this size, or of kind 1, sequential, of this record length, 0 for variable ones, with
+/// this read-protect code. Refuses the descriptor, the kind, the numbers (a code for a file of user 0 among them), a caller without the
+/// right, a name that is taken, a full directory, and a volume without such a run.
 pub fn allocate(
     image: &mut [u8],
     p: Layout,
@@ -72,9 +76,11 @@ pub fn allocate(
     kind: usize,
     size: usize,
     record: usize,
+    read_code: u8,
 ) -> Worked
     requires { ⌜ Located (now image) p × (sound (now image) ≡ true) ⌝ }
-    ensures { λ r. ⌜ deed r (now (image .exit)) [] ≡ allocateDeed (now (image .entry)) caller (now (desc .entry)) kind size «record» ⌝ }
+    ensures { λ r. ⌜ deed r (now (image .exit)) []
+        ≡ allocateDeed (now (image .entry)) caller (now (desc .entry)) kind size «record» «read_code» ⌝ }
 {
     if !descriptor(desc) {
         return Worked::Denied(Refusal::BadDescriptor);
@@ -82,14 +88,15 @@ pub fn allocate(
     if 1 < kind {
         return Worked::Denied(Refusal::UnknownType);
     }
-    if !sized(kind, size, record) {
+    let user = user_of(desc);
+    if !(sized(kind, size, record) & code_allowed(user, read_code)) {
         return Worked::Denied(Refusal::OutOfRange);
     }
-    if !has_right(caller, user_of(desc) as u32) {
+    if !has_right(caller, user as u32) {
         return Worked::Denied(Refusal::NoRight);
     }
     let Found::Nothing = find(image, p, desc) else {
         return Worked::Denied(Refusal::NameTaken);
     };
-    place(image, p, desc, kind, size, record)
+    place(image, p, desc, kind, size, record, read_code)
 }

@@ -26,18 +26,18 @@ pub record Begins (s : State) (p : Layout) : Type 0 where
 
 -- Assign: of the LUN u; by the file's name; by the mode's number
 unfoldable pub seatLeft : State → ℕ → ℕ → ℕ → Lun → Outcome
-seatLeft s caller owner lun u = judged (seatRules (s .desk) caller owner u) s [] (quietly (s .image) (putLun (s .desk) lun u))
+seatLeft s caller owner lun u = judged (seatRules s caller owner u) s [] (quietly (s .image) (putLun (s .desk) lun u))
 
-unfoldable pub assignLeft : State → ℕ → ℕ → List ℕ → Mode → Bool → Outcome
-assignLeft s caller lun desc m end =
-    let u = seatOf (s .image) caller (slotOf (s .image) desc) m end in
-    judged (namedRules (s .image) desc ++ seatRules (s .desk) caller (userOf desc) u) s [] (quietly (s .image) (putLun (s .desk) lun u))
+unfoldable pub assignLeft : State → ℕ → ℕ → List ℕ → Mode → Bool → ℕ → Outcome
+assignLeft s caller lun desc m end offered =
+    let u = seatOf (s .image) caller (slotOf (s .image) desc) m end offered in
+    judged (namedRules (s .image) desc ++ seatRules s caller (userOf desc) u) s [] (quietly (s .image) (putLun (s .desk) lun u))
 
-unfoldable pub modeLeft : State → ℕ → ℕ → List ℕ → ℕ → Bool → Outcome
-modeLeft s caller lun desc mode end =
-    let u = seatOf (s .image) caller (slotOf (s .image) desc) (modeOf mode) end in
+unfoldable pub modeLeft : State → ℕ → ℕ → List ℕ → ℕ → Bool → ℕ → Outcome
+modeLeft s caller lun desc mode end offered =
+    let u = seatOf (s .image) caller (slotOf (s .image) desc) (modeOf mode) end offered in
     judged
-    (UnknownType if ltb 7 mode ∷ (namedRules (s .image) desc ++ seatRules (s .desk) caller (userOf desc) u))
+    (UnknownType if ltb 7 mode ∷ (namedRules (s .image) desc ++ seatRules s caller (userOf desc) u))
     s [] (quietly (s .image) (putLun (s .desk) lun u))
 
 -- Delete: of the file in a slot; by the file's name

@@ -16,11 +16,11 @@ shared-slice-read-result c = search needs
 shared-slice-read-result-2 : tie.Need-shared-slice-read-result-2
 shared-slice-read-result-2 c = search needs
 
-word-at-requires : tie.Need-word-at-requires
-word-at-requires c κs = search needs
-
 shared-slice-read-result-3 : tie.Need-shared-slice-read-result-3
 shared-slice-read-result-3 c = search needs
+
+shared-slice-read-result-4 : tie.Need-shared-slice-read-result-4
+shared-slice-read-result-4 c = search needs
 
 long-at-requires : tie.Need-long-at-requires
 long-at-requires c κs = search needs
@@ -29,9 +29,7 @@ returns : tie.Need-returns
 unfolding lunForm
 returns c =
     or-of (c .before .before .before .before .before .all-zero .ensures)
-    (and-of
-    (and-of (and-of refl refl) (ap (λ (n : ℕ). eqb n 0) (c .before .before .word-at .ensures .0)))
-    (or-of refl (ap (λ (n : ℕ). eqb n 0) (c .long-at .ensures .0))))
+    (and-of (and-of (and-of refl refl) refl) (or-of refl (ap (λ (n : ℕ). eqb n 0) (c .long-at .ensures .0))))
 
 pub lun-form-spec : {M : Type 1} → statement M
 lun-form-spec =
@@ -40,7 +38,7 @@ lun-form-spec =
     all-zero-requires
     shared-slice-read-result
     shared-slice-read-result-2
-    word-at-requires
     shared-slice-read-result-3
+    shared-slice-read-result-4
     long-at-requires
     returns)

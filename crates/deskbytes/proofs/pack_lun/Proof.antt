@@ -61,6 +61,9 @@ cast-out-2 c = search needs
 slice-write-out-4 : tie.Need-slice-write-out-4
 slice-write-out-4 c = rw length-set (omega (arith, begun (c .before .before .before .before)))
 
+slice-write-out-5 : tie.Need-slice-write-out-5
+slice-write-out-5 c = rw (length-set, length-set) (omega (arith, begun (c .before .before .before .before)))
+
 first-of-requires : tie.Need-first-of-requires
 first-of-requires c κs = search needs
 
@@ -68,7 +71,7 @@ cast-put-long : tie.Need-cast-put-long
 cast-put-long c = search needs
 
 put-long-requires : tie.Need-put-long-requires
-put-long-requires c κs = (rw (length-set, length-set) (omega (arith, begun (c .before .before .before .before .before .before))), search needs)
+put-long-requires c κs = (rw (length-set, length-set, length-set) (omega (arith, begun (c .before .before .before .before .before .before))), search needs)
 
 returns-2 : tie.Need-returns-2
 returns-2 c =
@@ -77,7 +80,7 @@ returns-2 c =
     let z = w .before .before .before .before .before .before .before .before in
     packed-held (z .before .before .before .args .u) _ _ _ (zeroed z) (w .put-word .ensures) _ _ _
     (not-false _ (w .before .before .before .before .if1 .left)) (w .before .before .before .number .ensures) (p .before .before .before .count-of .ensures)
-    (p .before .first-of .ensures) (search needs) (p .put-long .ensures)
+    (p .before .first-of .ensures) (search needs) (search needs) (p .put-long .ensures)
 
 same-length-2 : tie.Need-same-length-2
 same-length-2 c =
@@ -101,6 +104,7 @@ pack-lun-spec =
     count-of-requires
     cast-out-2
     slice-write-out-4
+    slice-write-out-5
     first-of-requires
     cast-put-long
     put-long-requires

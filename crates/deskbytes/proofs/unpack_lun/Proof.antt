@@ -44,13 +44,17 @@ wide-requires-2 c κs = search needs
 cast-t12 : tie.Need-cast-t12
 cast-t12 c = search needs
 
+shared-slice-read-t14 : tie.Need-shared-slice-read-t14
+shared-slice-read-t14 c = search needs
+
 returns-2 : tie.Need-returns-2
 unfolding unpackedLun
 returns-2 c =
-    let w = c .before .before in
+    let s = c .before in
+    let w = s .before .before in
     let n = w .before .before in
     let used = ne-eqb _ _ (n .before .before .before .if1 .left) in
-    rw (used, n .numbered .ensures, n .before .wide .ensures .0, c .wide2 .ensures .0, w .word-at .ensures .0, w .before .place-in .ensures)
+    rw (used, n .numbered .ensures, n .before .wide .ensures .0, s .wide2 .ensures .0, w .word-at .ensures .0, w .before .place-in .ensures)
 
 pub unpack-lun-spec : {M : Type 1} → statement M
 unpack-lun-spec =
@@ -69,4 +73,5 @@ unpack-lun-spec =
     shared-slice-read-wide-2
     wide-requires-2
     cast-t12
+    shared-slice-read-t14
     returns-2)

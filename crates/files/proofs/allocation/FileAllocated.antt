@@ -26,7 +26,7 @@ module _ {img : List ℕ} {p : Layout} {at : ℕ} {d : List ℕ} {k n l s : ℕ}
       keeps-put s (taken k n) (256 * s) (blanks (256 * taken k n)) img (omega arith) (omega arith) (omega (arith, r .inside, r .located .long)) in
       g .at (satAt img) (ap (λ (u : ℕ). among u (range s (taken k n))) (sym (r .located .is-sat)) ∙ r .table-out)
 
-  pub allocated-is : (m : ℕ) (x y z : List ℕ) → m ≡ taken k n → x ≡ put (256 * s) (blanks (256 * m)) img → y ≡ putSector (p .sat) (withBits 1 (sector (p .sat) x) (range s m)) x
-      → z ≡ put (entryByte p at) (entry (fields k d l s n)) y → z ≡ allocated at d k n l s img
+  pub allocated-is : (rc m : ℕ) (x y z : List ℕ) → m ≡ taken k n → x ≡ put (256 * s) (blanks (256 * m)) img → y ≡ putSector (p .sat) (withBits 1 (sector (p .sat) x) (range s m)) x
+      → z ≡ put (entryByte p at) (entry (fields k d rc l s n)) y → z ≡ allocated at d k n l rc s img
   unfolding allocated putSat putEntry
-  allocated-is m x y z em ex ey ez = ez ∙ rw (ey, ex, em, r .located .is-sat, r .located .is-dir, table-kept)
+  allocated-is rc m x y z em ex ey ez = ez ∙ rw (ey, ex, em, r .located .is-sat, r .located .is-dir, table-kept)

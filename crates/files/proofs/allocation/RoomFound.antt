@@ -25,8 +25,8 @@ small k n l (run-of a b c d) = (omega arith, omega arith)
 small k n l (records-of a b c) = (omega arith, omega arith)
 
 -- the table's own sector is marked, so no free run has it
-pub room : (v : List ℕ) (p : Layout) (at : ℕ) (d : List ℕ) (k n l s : ℕ) → Located v p → Allocatable v at d k n l s → Room v p at d k n l s
-room v p at d k n l s h a =
+pub room : (v : List ℕ) (p : Layout) (at : ℕ) (d : List ℕ) (k n l rc s : ℕ) → Located v p → Allocatable v at d k n l rc s → Room v p at d k n l s
+room v p at d k n l rc s h a =
     let F : Facts v = facts v (a .is-sound) in
     let z = small k n l (sizes k n l (a .numbers)) in
     record {

@@ -10,16 +10,17 @@ use Rattle.files.specs.Rights.{hasRight}
 use Rattle.files.specs.Files.{extent}
 use Rattle.luns.specs.declared.Lun.{Lun}
 use Rattle.luns.specs.Modes.{writes}
-use Rattle.luns.specs.Luns.{placeExists}
+use Rattle.luns.specs.Luns.{placeExists, readsByRight}
 use Rattle.luns.specs.declared.Place.{Place}
 use Rattle.luns.specs.declared.Place.the-variants.{Fresh, At}
 
--- a held LUN's slot is in use, its user in range, and a writer has the right
+-- a held LUN's slot is in use, its user in range, a writer has the right, and a reader the right to read
 unfoldable pub seated : List ℕ → Lun → Bool
 seated img u =
     not (u .held)
     or not (unused (entryAt img (u .slot))) and leb (u .user) lastUser
     and (not (writes (u .mode)) or hasRight (u .user) (owner (entryAt img (u .slot))))
+    and readsByRight img u
 
 -- a held LUN's place exists
 unfoldable pub stands : List ℕ → Lun → Bool

@@ -7,28 +7,26 @@ use native.Mathlib.Decide.{decLt}
 use native.Mathlib.Omega.{arith}
 use Prim.Native.Nat.{ℕ, _+_, _-_, _<_, _≤_}
 use lib.Dec.{eqb}
-use lib.ListN.{length, length-append, length-drop}
+use lib.ListN.{length}
 use borrow.Author.Tests.{eq-eqb, ne-eqb}
 use Rattle.lists.specs.Lists.{if_then_else_}
-use Rattle.lists.specs.Parts.{byte, long, bytes4, part, put, over}
+use Rattle.lists.specs.Parts.{byte, long, bytes4, part, put}
 use Rattle.lists.proofs.Puts.{length-put, part-put-same, put-none}
 use Rattle.work.specs.Transfers.{moving, writing, updating}
 use Rattle.desk.specs.declared.Answer.{Answer}
 use Rattle.desk.specs.declared.Answer.the-variants.{Refused}
 use Rattle.desk.specs.Desk.{State}
 use Rattle.desk.specs.Answers.{Outcome, status, moved, accepts}
-use Rattle.desk.specs.Calls.{Call, Format, Check, Allocate, Assign, Close, Rewind, Delete, Read, Write, Update, given, done, quietly, checked, transferred, step}
+use Rattle.desk.specs.Calls.{Call, Rewind, Write, Update, given, done, quietly, transferred, step}
 use Rattle.front.specs.Blocks.{blockSize, functionOf, lunIn, startIn, endIn, isTransfer, blockAfter}
 use Rattle.front.specs.Areas.{namesShared, offset, area, partNamed, taskAfter, sharedAfter}
 use Rattle.front.specs.Front.{packedDesk, deskAfter, Lent, Ended, transferAsked, asked, turnedBack, carriedOut, front}
 use Rattle.promises.specs.Fronts.{stateOf, bytesLent, BlockAnswered, OutsideKept, OnlyThePart, OnlyReadsFill, CarriedOut, AcceptedThrough}
-use Rattle.promises.proofs.Answers.{refusal-keeps}
 use Rattle.promises.proofs.Fronts.FrontAnswers.{refused-number, carried-number, Which, was-done, was-refused, which}
 use Rattle.promises.proofs.Fronts.FrontCases.{PassedFront, front-cases, code-not-0, given-asked, lies, named-after, other-after, lent-long, lent-back, task-same}
 use Rattle.promises.proofs.Fronts.FrontCases.{shared-same}
-use Rattle.promises.proofs.Passing.{accepted, refused-or-accepted}
+use Rattle.promises.proofs.Effects.Buffers.{buffer-stays, buffer-long}
 use Rattle.lists.proofs.PutBytes.{byte-put-outside, byte-put-inside, long-put}
-use Rattle.promises.proofs.Reading.{accepted-read}
 
 -- whatever becomes of a request, some answer is in its block
 pub record BlockTold (e : Ended) (b : List ℕ) : Type 0 where
@@ -101,56 +99,26 @@ block-answered caller l n =
       others-kept = λ j x h. ap (λ (b : List ℕ). byte b j) (t .block-is) ∙ block-other (t .answer) (l .block) n j x h;
     }
 
--- a call's buffer is as long after it as before
-over-long : (bs buf : List ℕ) → length bs ≤ length buf → length (over bs buf) ≡ length buf
-unfolding over
-over-long bs buf h = simp (length-append, length-drop) (omega arith)
-
+-- no byte
 none-long : (bs : List ℕ) → length bs ≡ 0 → bs ≡ []
 none-long [] e = refl
 none-long (x ∷ bs) e = absurd (omega (arith, e))
-
-done-long : (c : Call) (s : State) → accepts (step c s .answer) ≡ true → length (step c s .buffer) ≡ length (given c)
-unfolding done given quietly checked transferred writing updating moving
-done-long (Format id n) s h = ap (λ (o : Outcome). length (o .buffer)) (accepted (Format id n) s h .is)
-done-long Check s h = ap (λ (o : Outcome). length (o .buffer)) (accepted Check s h .is)
-done-long (Allocate caller desc k n l) s h = ap (λ (o : Outcome). length (o .buffer)) (accepted (Allocate caller desc k n l) s h .is)
-done-long (Assign caller lun desc mode end) s h = ap (λ (o : Outcome). length (o .buffer)) (accepted (Assign caller lun desc mode end) s h .is)
-done-long (Close caller lun) s h = ap (λ (o : Outcome). length (o .buffer)) (accepted (Close caller lun) s h .is)
-done-long (Rewind caller lun) s h = ap (λ (o : Outcome). length (o .buffer)) (accepted (Rewind caller lun) s h .is)
-done-long (Delete caller desc) s h = ap (λ (o : Outcome). length (o .buffer)) (accepted (Delete caller desc) s h .is)
-done-long (Read caller lun sel num fmt buf) s h =
-    let t = accepted-read s caller lun sel num fmt buf h in
-    ap length (t .1 .buffer-has) ∙ over-long (t .0) buf (t .1 .room)
-done-long (Write caller lun sel num fmt bs) s h = ap (λ (o : Outcome). length (o .buffer)) (accepted (Write caller lun sel num fmt bs) s h .is)
-done-long (Update caller lun sel num fmt bs) s h = ap (λ (o : Outcome). length (o .buffer)) (accepted (Update caller lun sel num fmt bs) s h .is)
-
-buffer-long : (c : Call) (s : State) → length (step c s .buffer) ≡ length (given c)
-buffer-long c s = go (which (step c s .answer))
-  where
-    go : Which (step c s .answer) → length (step c s .buffer) ≡ length (given c)
-    go (was-done h z) = done-long c s h
-    go (was-refused why e) = ap length (refusal-keeps c s why e .buffer-kept)
 
 -- what a write, an update and a rewind are lent stays as it is
 abbrev LeavesBuffer : Call → Type 0
 LeavesBuffer c = (s : State) → step c s .buffer ≡ given c
 
-by-change : (c : Call) → ((s : State) → done c s .buffer ≡ given c) → LeavesBuffer c
-by-change c h s =
-    ⊎-elim (λ t. ap (λ (o : Outcome). o .buffer) (t .is)) (λ t. ap (λ (o : Outcome). o .buffer) (t .is) ∙ h s) (refused-or-accepted c s)
-
 write-leaves : (caller lun sel num : ℕ) (fmt : Bool) (bs : List ℕ) → LeavesBuffer (Write caller lun sel num fmt bs)
 unfolding done given transferred writing moving
-write-leaves caller lun sel num fmt bs = by-change (Write caller lun sel num fmt bs) (λ s. refl)
+write-leaves caller lun sel num fmt bs s = buffer-stays (Write caller lun sel num fmt bs) s refl
 
 update-leaves : (caller lun sel num : ℕ) (fmt : Bool) (bs : List ℕ) → LeavesBuffer (Update caller lun sel num fmt bs)
 unfolding done given transferred updating moving
-update-leaves caller lun sel num fmt bs = by-change (Update caller lun sel num fmt bs) (λ s. refl)
+update-leaves caller lun sel num fmt bs s = buffer-stays (Update caller lun sel num fmt bs) s refl
 
 rewind-leaves : (caller lun : ℕ) → LeavesBuffer (Rewind caller lun)
 unfolding done given quietly
-rewind-leaves caller lun = by-change (Rewind caller lun) (λ s. refl)
+rewind-leaves caller lun s = buffer-stays (Rewind caller lun) s refl
 
 -- .. so a request of another function than read leaves what it lent
 not-first : (x y : Bool) (A B C : Call) → x ≡ false → LeavesBuffer B → LeavesBuffer C → LeavesBuffer (if x then A else if y then B else C)

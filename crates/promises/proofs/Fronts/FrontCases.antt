@@ -14,7 +14,8 @@ use Rattle.lists.proofs.Puts.{put-none, put-part}
 use Rattle.lists.proofs.LentParts.{length-part}
 use Rattle.lists.proofs.Tests.{and-left, and-right}
 use Rattle.work.specs.declared.Refusal.{Refusal}
-use Rattle.work.specs.declared.Refusal.the-variants.{UnknownType, BadLun, NoRight, InUse, NoFile, BadRequest, BadLength, PastEnd, OutOfRange, OtherLength, Exists, NoRoom}
+use Rattle.work.specs.declared.Refusal.the-variants.{UnknownType, BadLun, WrongCode, NoRight, InUse, NoFile, BadRequest, BadLength, PastEnd, OutOfRange, OtherLength, Exists}
+use Rattle.work.specs.declared.Refusal.the-variants.{NoRoom}
 use Rattle.work.specs.declared.Refusal.the-variants.{BadDescriptor, NoSegment, NameTaken, DirectoryFull, NotSound}
 use Rattle.work.specs.Refusals.{code}
 use Rattle.work.proofs.Rules.{Passes}
@@ -72,6 +73,7 @@ front-cases caller l =
 pub code-not-0 : (r : Refusal) → code r ≢ 0
 code-not-0 UnknownType e = absurd (omega (arith, e))
 code-not-0 BadLun e = absurd (omega (arith, e))
+code-not-0 WrongCode e = absurd (omega (arith, e))
 code-not-0 NoRight e = absurd (omega (arith, e))
 code-not-0 InUse e = absurd (omega (arith, e))
 code-not-0 NoFile e = absurd (omega (arith, e))

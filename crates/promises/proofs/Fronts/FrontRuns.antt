@@ -34,7 +34,9 @@ use Rattle.promises.proofs.Fronts.FrontReadBack.{lent-bytes}
 use Rattle.promises.proofs.Preserved.{stays-good}
 use Rattle.promises.proofs.Fronts.PackedDesks.{desk-reads-back}
 use Rattle.promises.proofs.Fronts.PlainDesks.{calls-make-plain}
-use Rattle.promises.proofs.Passing.{ruled-first, ruled-passes, step-first, step-passes, refused-or-accepted}
+use Rattle.promises.proofs.Passing.{accepted, ruled-first, ruled-passes, step-first, step-passes, refused-or-accepted}
+use Rattle.promises.proofs.Names.{id-bytes}
+use Rattle.promises.proofs.Told as accepts-told
 
 -- A request, seen from the volume: nothing, or one visit, with the desk that its bytes stand for or, for format, any
 data Suits (c : Call) (d : Desk) (bs : List ℕ) : Type 0 where
@@ -220,15 +222,18 @@ record OneRun (r : Request) (s : State) : Type 0 where
   desk-is : leaves r (s .image) (packedDesk (s .desk)) .desk ≡ packedDesk (run (callsBy (visitBy r (s .image) (packedDesk (s .desk)))) s .desk)
   still-plain : PlainDesk (run (callsBy (visitBy r (s .image) (packedDesk (s .desk)))) s .desk)
 
-one-run : (r : Request) (s : State) → PlainDesk (s .desk) → Told r (s .image) (packedDesk (s .desk)) → OneRun r s
+one-run : (r : Request) (s : State) → BytesSent r → PlainDesk (s .desk) → Told r (s .image) (packedDesk (s .desk)) → OneRun r s
 unfolding run next
-one-run r s p (quiet v i d) = record { image-is = rw v i; desk-is = rw v d; still-plain = rw v p }
-one-run r s p (makes c d m) = record {
+one-run r s b p (quiet v i d) = record { image-is = rw v i; desk-is = rw v d; still-plain = rw v p }
+one-run r s b p (makes c d m) = record {
   image-is = rw (m .one-visit) (m .its-image ∙ images (m .suits));
   desk-is = rw (m .one-visit) (m .its-desk ∙ desks (m .suits) ∙ packed-after c s);
-  still-plain = rw (m .one-visit) (calls-make-plain .each-call c s p);
+  still-plain = rw (m .one-visit) (calls-make-plain .each-call c s sent-bytes p);
 }
   where
+    sent-bytes : Bytes (sent c)
+    sent-bytes = (rw (m .one-visit) at (made-bytes r (s .image) (packedDesk (s .desk)) b)) .0
+
     same-state : d ≡ unpackedDesk (packedDesk (s .desk)) → state (s .image) d ≡ s
     same-state e = ap (state (s .image)) (e ∙ desk-reads-back (s .desk) p .as-itself)
 
@@ -260,29 +265,32 @@ one-more r rs img bs u h = record { images = h .images; desks = h .desks; is-pla
 
 pub requests-are-runs : RequestsAreRuns
 unfolding callsMade
-requests-are-runs [] s p = no-request s p
-requests-are-runs (r ∷ rs) s p =
-    let o = one-run r s p (told r (s .image) (packedDesk (s .desk))) in
+requests-are-runs [] s p b = no-request s p
+requests-are-runs (r ∷ rs) s p b =
+    let o = one-run r s (b .0) p (told r (s .image) (packedDesk (s .desk))) in
     let cs : List Call = callsBy (visitBy r (s .image) (packedDesk (s .desk))) in
     subst (SameRun (r ∷ rs) (s .image) (packedDesk (s .desk))) (sym (run-more cs _ s))
     (one-more r rs (s .image) (packedDesk (s .desk)) _
-    (the-rest rs _ _ (run cs s) (o .image-is) (o .desk-is) (requests-are-runs rs (run cs s) (o .still-plain))))
+    (the-rest rs _ _ (run cs s) (o .image-is) (o .desk-is) (requests-are-runs rs (run cs s) (o .still-plain) (b .1))))
 
 -- Demand 3: a format that is accepted, and then requests
-formatted-run : (id : List ℕ) (n : ℕ) (img bs : List ℕ) → length bs ≡ deskSize → Accepts (Format id n) (state img emptyDesk) → (rs : List Request)
+formatted-run : (id : List ℕ) (n : ℕ) (img bs : List ℕ) → length bs ≡ deskSize → Accepts (Format id n) (state img emptyDesk) → (rs : List Request) → RequestBytes rs
     → SameRun (Formats id n ∷ rs) img bs (run (callsMade rs (leaves (Formats id n) img bs .image) (leaves (Formats id n) img bs .desk)) (next (Format id n) (state img emptyDesk)))
-formatted-run id n img bs e h rs =
+formatted-run id n img bs e h rs b =
     one-more (Formats id n) rs img bs _
     (the-rest rs _ _ (next (Format id n) (state img emptyDesk)) (format-image id n img bs e) (format-desk id n img bs e h)
-    (requests-are-runs rs (next (Format id n) (state img emptyDesk)) (format-plain id n img)))
+    (requests-are-runs rs (next (Format id n) (state img emptyDesk)) format-plain b))
   where
-    format-plain : (id : List ℕ) (n : ℕ) (img : List ℕ) → PlainDesk (next (Format id n) (state img emptyDesk) .desk)
-    format-plain id n img = plain-next (Format id n) (state img emptyDesk) (calls-make-plain .each-call (Format id n) (state img emptyDesk) (calls-make-plain .empty-is-plain))
+    id-sent : Bytes (sent (Format id n))
+    id-sent = format-sent id n (id-bytes id (accepts-told.format-told id n _ (accepted (Format id n) _ h) .good-id))
+
+    format-plain : PlainDesk (next (Format id n) (state img emptyDesk) .desk)
+    format-plain = plain-next (Format id n) (state img emptyDesk) (calls-make-plain .each-call (Format id n) (state img emptyDesk) id-sent (calls-make-plain .empty-is-plain))
 
 pub front-stays-good : FrontStaysGood
 front-stays-good id n img bs z rs b =
     let f = format-accepted id n img bs z in
-    let r = formatted-run id n img bs (f .0) (f .1) rs in
+    let r = formatted-run id n img bs (f .0) (f .1) rs b in
     let g = stays-good (state img emptyDesk) id n (f .1) _ (all-made rs (leaves (Formats id n) img bs .image) (leaves (Formats id n) img bs .desk) b) in (
       subst Good (λ i. state (sym (r .images) i) (sym (ap unpackedDesk (r .desks) ∙ desk-reads-back _ (r .is-plain) .as-itself) i)) (g .0),
       subst InOrder (sym (r .images)) (g .1),

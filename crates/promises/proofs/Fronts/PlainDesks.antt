@@ -20,7 +20,7 @@ use Rattle.files.proofs.OneFileChanged.{entry-here}
 use Rattle.luns.specs.declared.Lun.{Lun}
 use Rattle.luns.specs.declared.Place.{Place}
 use Rattle.luns.specs.declared.Place.the-variants.{Fresh, At}
-use Rattle.luns.specs.Luns.{freeLun, movedTo, placeExists}
+use Rattle.luns.specs.Luns.{freeLun, movedTo, placeExists, readsByRight}
 use Rattle.luns.proofs.Fitting.{Fitted}
 use Rattle.deskbytes.specs.DeskBytes.{PlainPlace, PlainLun}
 use Rattle.deskbytes.proofs.UnpackedLun.{free-plain}
@@ -28,11 +28,13 @@ use Rattle.work.specs.Transfers.{storedAs, moving, reading, writing, updating, 
 use Rattle.work.proofs.TextRules.{stored-units}
 use Rattle.desk.specs.declared.Desk.{Desk}
 use Rattle.desk.specs.Desk.{State, state, emptyDesk, lunAt, putLun, ready, mine, fileOf, aimed}
-use Rattle.desk.specs.Calls.{Call, Format, Check, Allocate, Assign, Close, Rewind, Delete, Read, Write, Update, quietly, checked, after, transferred, done, seatOf, newLun, step}
+use Rattle.desk.specs.Calls.{Call, Format, Check, Allocate, Assign, Close, Rewind, Delete, Read, Write, Update, quietly, checked, after, transferred, done, seatOf, newLun, sent}
+use Rattle.desk.specs.Calls.{step}
 use Rattle.desk.proofs.Bounds.{extent-small}
 use Rattle.promises.specs.Contents.{slotHeld}
 use Rattle.promises.specs.DeskBytes.{PlainDesk, CallsMakePlain}
 use Rattle.promises.specs.Runs.{next, run}
+use Rattle.promises.specs.Sectors.{Bytes, AllBytes}
 use Rattle.promises.proofs.Passing.{Accepted, refused-or-accepted}
 use Rattle.promises.proofs.Told.{AssignTold, assign-told, rewind-told, ReadTold, read-told, WriteTold, write-told, UpdateTold, update-told}
 use Rattle.promises.proofs.PlacesExist.{place-one, units-run, units-one}
@@ -94,21 +96,23 @@ module _ (v : List ℕ) (is-sound : sound v ≡ true) (k : ℕ) (used : unused (
           record { some-moved = omega arith; n-fits = omega arith; i-fits = omega (arith, extent-fits) }
 
 -- a held LUN that fits a sound volume
-plain-held : (v : List ℕ) (u : Lun) → sound v ≡ true → u .held ≡ true → Fitted v u → PlainLun u
-plain-held v u s h f =
+plain-held : (v : List ℕ) (u : Lun) → sound v ≡ true → u .held ≡ true → u .offered < 256 → Fitted v u → PlainLun u
+plain-held v u s h c f =
     record {
       free-is-empty = λ e. absurd (true≢false (sym h ∙ e));
       user-fits = omega (arith, f .user-in);
       slot-fits = omega (arith, used-slot v (u .slot) (f .used), facts v s .few-dirs);
+      code-fits = c;
       place-plain = place-plain v s (u .slot) (f .used) (u .place) (f .place);
     }
 
 -- Assign
-plain-assigned : (caller lun : ℕ) (desc : List ℕ) (mode : ℕ) (end : Bool) (s : State) → AssignTold s caller lun desc mode end → PlainDesk (s .desk)
-    → PlainDesk (putLun (s .desk) lun (newLun (s .image) caller desc mode end))
+plain-assigned : (caller lun : ℕ) (desc : List ℕ) (mode : ℕ) (end : Bool) (offered : ℕ) (s : State) → AssignTold s caller lun desc mode end offered → offered < 256
+    → PlainDesk (s .desk)
+    → PlainDesk (putLun (s .desk) lun (newLun (s .image) caller desc mode end offered))
 unfolding newLun seatOf
-plain-assigned caller lun desc mode end s T h =
-    plain-put (s .desk) lun _ h (plain-held (s .image) _ (ready-sound s (T .is-ready)) refl (new-fitted caller lun desc mode end s T))
+plain-assigned caller lun desc mode end offered s T c h =
+    plain-put (s .desk) lun _ h (plain-held (s .image) _ (ready-sound s (T .is-ready)) refl c (new-fitted caller lun desc mode end offered s T))
 
 -- the desk with a LUN at another place
 abbrev movedAt : State → ℕ → Place → Desk
@@ -120,6 +124,10 @@ module _ (s : State) (caller lun : ℕ) (r : ready s ≡ true) (m : mine (s .des
   H : Held s lun
   H = held-by s caller lun r m
 
+  kept-code : lunAt (s .desk) lun .offered < 256
+  unfolding lunAt
+  kept-code = h .each-plain lun .code-fits
+
   plain-moved : (v : List ℕ) (p : Place) → sound v ≡ true → entryAt v (slotHeld s lun) ≡ entryOf s lun → placeExists v (entryOf s lun) p ≡ true
       → PlainDesk (movedAt s lun p)
   unfolding movedTo
@@ -128,9 +136,10 @@ module _ (s : State) (caller lun : ℕ) (r : ready s ≡ true) (m : mine (s .des
         used = rw same (H .lun-ok .used);
         user-in = H .lun-ok .user-in;
         right = rw same (H .lun-ok .right);
+        read-right = unfold readsByRight in rw same (H .lun-ok .read-right);
         place = rw same there;
       } in
-      plain-put (s .desk) lun _ h (plain-held v _ is-sound (H .is-held) fits)
+      plain-put (s .desk) lun _ h (plain-held v _ is-sound (H .is-held) kept-code fits)
 
   plain-kept : (p : Place) → placeExists (s .image) (entryOf s lun) p ≡ true → PlainDesk (movedAt s lun p)
   plain-kept p there = plain-moved (s .image) p (ready-sound s r) refl there
@@ -181,30 +190,30 @@ plain-updated caller lun sel num fmt bs ss s T h =
     (plain-kept s caller lun (T .opened .is-ready) (T .opened .is-mine) h _ (place-one (s .image) (entryOf s lun) _ (T .sequential) (T .there)))
 
 -- any accepted call; any call; any calls
-plain-done : (c : Call) (s : State) → Accepted c s → PlainDesk (s .desk) → PlainDesk (done c s .desk)
-unfolding done quietly checked transferred
-plain-done (Format id n) s a h = plain-empty
-plain-done Check s a h = h
-plain-done (Allocate caller desc k n l) s a h = h
-plain-done (Assign caller lun desc mode end) s a h = plain-assigned caller lun desc mode end s (assign-told caller lun desc mode end s a) h
-plain-done (Close caller lun) s a h = plain-put (s .desk) lun freeLun h free-plain
-plain-done (Rewind caller lun) s a h = let T = rewind-told caller lun s a in plain-rewound s caller lun (T .is-ready) (T .is-fine) h
-plain-done (Delete caller desc) s a h = h
-plain-done (Read caller lun sel num fmt buf) s a h = plain-read caller lun sel num fmt buf s (read-told caller lun sel num fmt buf s a) h
-plain-done (Write caller lun sel num fmt bs) s a h = plain-written caller lun sel num fmt bs s (write-told caller lun sel num fmt bs s a) h
-plain-done (Update caller lun sel num fmt bs) s a h = plain-updated caller lun sel num fmt bs _ s (update-told caller lun sel num fmt bs s a) h
+plain-done : (c : Call) (s : State) → Accepted c s → Bytes (sent c) → PlainDesk (s .desk) → PlainDesk (done c s .desk)
+unfolding done sent quietly checked transferred
+plain-done (Format id n) s a b h = plain-empty
+plain-done Check s a b h = h
+plain-done (Allocate caller desc k n l rc) s a b h = h
+plain-done (Assign caller lun desc mode end offered) s a b h = plain-assigned caller lun desc mode end offered s (assign-told caller lun desc mode end offered s a) (b 0) h
+plain-done (Close caller lun) s a b h = plain-put (s .desk) lun freeLun h free-plain
+plain-done (Rewind caller lun) s a b h = let T = rewind-told caller lun s a in plain-rewound s caller lun (T .is-ready) (T .is-fine) h
+plain-done (Delete caller desc) s a b h = h
+plain-done (Read caller lun sel num fmt buf) s a b h = plain-read caller lun sel num fmt buf s (read-told caller lun sel num fmt buf s a) h
+plain-done (Write caller lun sel num fmt bs) s a b h = plain-written caller lun sel num fmt bs s (write-told caller lun sel num fmt bs s a) h
+plain-done (Update caller lun sel num fmt bs) s a b h = plain-updated caller lun sel num fmt bs _ s (update-told caller lun sel num fmt bs s a) h
 
-plain-step : (c : Call) (s : State) → PlainDesk (s .desk) → PlainDesk (step c s .desk)
-plain-step c s h = ⊎-elim (λ t. rw (t .is) h) (λ a. rw (a .is) (plain-done c s a h)) (refused-or-accepted c s)
+plain-step : (c : Call) (s : State) → Bytes (sent c) → PlainDesk (s .desk) → PlainDesk (step c s .desk)
+plain-step c s b h = ⊎-elim (λ t. rw (t .is) h) (λ a. rw (a .is) (plain-done c s a b h)) (refused-or-accepted c s)
 
-plain-run : (cs : List Call) (s : State) → PlainDesk (s .desk) → PlainDesk (run cs s .desk)
+plain-run : (cs : List Call) (s : State) → AllBytes cs → PlainDesk (s .desk) → PlainDesk (run cs s .desk)
 unfolding run next
-plain-run [] s h = h
-plain-run (c ∷ cs) s h = plain-run cs (next c s) (plain-step c s h)
+plain-run [] s b h = h
+plain-run (c ∷ cs) s b h = plain-run cs (next c s) (b .1) (plain-step c s (b .0) h)
 
 pub calls-make-plain : CallsMakePlain
 calls-make-plain = record {
   empty-is-plain = plain-empty;
   each-call = plain-step;
-  any-calls = λ img cs. plain-run cs (state img emptyDesk) plain-empty;
+  any-calls = λ img cs b. plain-run cs (state img emptyDesk) b plain-empty;
 }

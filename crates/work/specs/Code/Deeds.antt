@@ -58,12 +58,12 @@ replaceDeed img e i ss bs = doneBy (replaceRules img e i ss) img bs (moved (movi
 unfoldable pub formatDeed : List ℕ → List ℕ → ℕ → Deed
 formatDeed img id n = doneBy (formatRules img id n) img [] (quiet (formatted id n (sectors img)))
 
-unfoldable pub allocateDeed : List ℕ → ℕ → List ℕ → ℕ → ℕ → ℕ → Deed
-allocateDeed img caller desc k n l = doneBy (allocateRules img caller desc k n l) img [] (quiet (newFile img desc k n l))
+unfoldable pub allocateDeed : List ℕ → ℕ → List ℕ → ℕ → ℕ → ℕ → ℕ → Deed
+allocateDeed img caller desc k n l rc = doneBy (allocateRules img caller desc k n l rc) img [] (quiet (newFile img desc k n l rc))
 
 -- a file that may be made, if an entry and a run are there
-unfoldable pub placeDeed : List ℕ → List ℕ → ℕ → ℕ → ℕ → Deed
-placeDeed img desc k n l = doneBy (placeRules img k n) img [] (quiet (newFile img desc k n l))
+unfoldable pub placeDeed : List ℕ → List ℕ → ℕ → ℕ → ℕ → ℕ → Deed
+placeDeed img desc k n l rc = doneBy (placeRules img k n) img [] (quiet (newFile img desc k n l rc))
 
 -- the slot of a descriptor
 unfoldable pub soughtOf : List ℕ → List ℕ → Sought

@@ -54,7 +54,7 @@ returns-2 c =
     let at-begun2 = at-begun2 in
     let begin = at-begin in
     let begun2 = at-begun2 in
-    rw (c .answer .ensures) (allocate-told _ _ _ _ _ (sym (begin .ensures) ∙ begun2 .given .1) _ _ _ _ _ (c .before .before .before .allocate .ensures))
+    rw (c .answer .ensures) (allocate-told _ _ _ _ _ (sym (begin .ensures) ∙ begun2 .given .1) _ _ _ _ _ _ (c .before .before .before .allocate .ensures))
 
 pub allocate-spec : {M : Type 1} → statement M
 allocate-spec =

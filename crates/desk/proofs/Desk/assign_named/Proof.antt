@@ -1,6 +1,7 @@
 use mathlib.Core.Path.{sym, _∙_}
 use native.Mathlib.Omega.{arith}
 use borrow.Author.Needs.{needs}
+use Rattle.desk.specs.Calls.{seatOf}
 use Rattle.desk.specs.Code.Left.{assignLeft, seatLeft}
 use Rattle.desk.proofs.Named.{named-refused, named-slot, named-left, named-long, named-in-use}
 use Rattle.desk.proofs.Desk.assign_named.Statement.{statement}
@@ -35,7 +36,12 @@ seat-of-requires c κs =
     named-in-use _ _ _ (sym (seek .ensures) ∙ c .before .before .sought2 .given .1) _ (pre .0)
 
 seat-requires : tie.Need-seat-requires
-seat-requires c κs = search needs
+unfolding seatOf
+seat-requires c κs =
+    let s = c .before .before .before .before .before .before .before .before in
+    let sought = sym (c .before .before .before .before .before .seek .ensures) ∙ c .before .before .before .sought2 .given .1 in
+    let held = named-in-use _ _ _ sought _ (s .pre .0) in
+    (s .pre .0 .located, rw (c .seat-of .ensures) (held .slot), s .pre .1)
 
 returns : tie.Need-returns
 unfolding assignLeft

@@ -20,12 +20,12 @@ same-length c = search needs
 
 returns : tie.Need-returns
 returns c =
-    let before = c .before .before .before .before .before .before .before .before .before .before .before .before .before .before .before in
-    let at-before = c .before .before .before .before .before .before in
-    let s = before in
-    let before-entry = at-before in
-    allocated-is (s .pre) _ _ _ _ (before-entry .before .before .before .before .before .before .taken .ensures) (before-entry .before .before .before .before .zero-run .ensures)
-    (before-entry .mark-in .ensures) (c .before .before .put-entry .ensures)
+    let marked = c .before .before .before .before .before .before in
+    let zeroed = marked .before .before .before .before in
+    let sized = zeroed .before .before in
+    let s = sized .before .before .before in
+    allocated-is (s .pre) (s .args .read-code) _ _ _ _ (sized .taken .ensures) (zeroed .zero-run .ensures) (marked .mark-in .ensures)
+    (c .before .before .put-entry .ensures)
 
 pub allocate-spec : {M : Type 1} → statement M
 allocate-spec =

@@ -3,6 +3,7 @@ use native.Mathlib.Omega.{arith}
 use lib.ListN.{length}
 use borrow.Author.Tests.{not-true, not-false}
 use borrow.Author.Needs.{needs}
+use Rattle.lists.proofs.Bools.{and-of}
 use Rattle.volume.proofs.Slots.{length-entry}
 use Rattle.luns.proofs.FitLaws.{free-seated, high-seated, held-seated}
 use Rattle.luns.proofs.fits.seated.Statement.{statement}
@@ -37,13 +38,15 @@ may-hold-requires c κs =
     let s = before in
     ap length (c .before .entry-of .ensures) ∙ length-entry _ _ (s .pre) _ (omega arith)
 
+reads-by-right-requires : tie.Need-reads-by-right-requires
+reads-by-right-requires c κs = search needs
+
 returns-3 : tie.Need-returns-3
 returns-3 c =
-    let at-if1 = c .before .before .before .before .before .before .if1 in
-    let if1 = at-if1 in
-    c .may-hold .ensures
-    ∙ rw (c .before .before .entry-of .ensures, c .before .writes .ensures)
-    (held-seated _ _ (not-false _ (if1 .left)))
+    let held = c .before .before .before .before .before .before .before .if1 in
+    let hold = c .before .may-hold in
+    and-of (hold .ensures ∙ rw (c .before .before .before .entry-of .ensures, c .before .before .writes .ensures)) (c .reads-by-right .ensures)
+    ∙ held-seated _ _ (not-false _ (held .left))
 
 pub seated-spec : {M : Type 1} → statement M
 seated-spec =
@@ -56,4 +59,5 @@ seated-spec =
     entry-of-requires
     writes-requires
     may-hold-requires
+    reads-by-right-requires
     returns-3)

@@ -38,7 +38,7 @@ returns c =
     let s = before in
     let x = s .args in
     let a = entry-at .result in
-    let f = fields (x .kind) (now (x .desc)) (x .len) (x .s) (x .n) in
+    let f = fields (x .kind) (now (x .desc)) (x .read-code) (x .len) (x .s) (x .n) in
     wrote a (a + 32) (now (x .img)) _ (entry f) (omega arith) (c .before .before .put-fields .ensures) (omega (arith, entry-length f (s .pre .1)))
     ∙ ap (λ (i : ℕ). put i (entry f) (now (x .img))) (entry-at .ensures)
 

@@ -40,7 +40,7 @@ returns c =
     let copy-in = c .before .before .before .before .before .before .copy-in in
     let s = before in
     let a = s .args in
-    fields-are (now (a .part)) _ _ _ (now (a .desc)) (a .kind) (a .len) (a .s) (a .n) (s .pre .0) (s .pre .1) (s .pre .2)
+    fields-are (now (a .part)) _ _ _ (now (a .desc)) (a .kind) (a .read-code) (a .len) (a .s) (a .n) (s .pre .0) (s .pre .1) (s .pre .2)
     (put-word .ensures)
     (wrote 2 22 _ _ (now (a .desc)) (omega arith) (copy-in .ensures
     ∙ over-all _ _ (omega (arith, length-take 20 (drop 2 (put-word .last .0)))))

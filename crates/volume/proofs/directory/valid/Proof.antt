@@ -1,4 +1,4 @@
-use mathlib.Core.Path.{refl, ap}
+use mathlib.Core.Path.{refl, ap, _∙_}
 use lib.Dec.{eqb, leb}
 use borrow.Author.Needs.{needs}
 use Rattle.lists.specs.Parts.{part}
@@ -25,11 +25,20 @@ part-descriptor-end c = search needs
 descriptor-requires : tie.Need-descriptor-requires
 descriptor-requires c κs = search needs
 
+shared-slice-read-result-2 : tie.Need-shared-slice-read-result-2
+shared-slice-read-result-2 c = search needs
+
+owner-requires : tie.Need-owner-requires
+owner-requires c κs = search needs
+
+read-code-requires : tie.Need-read-code-requires
+read-code-requires c κs = search needs
+
+code-allowed-requires : tie.Need-code-allowed-requires
+code-allowed-requires c κs = search needs
+
 word-at-requires : tie.Need-word-at-requires
 word-at-requires c κs = search needs
-
-word-at-requires-2 : tie.Need-word-at-requires-2
-word-at-requires-2 c κs = search needs
 
 extent-good-requires : tie.Need-extent-good-requires
 extent-good-requires c κs = search needs
@@ -37,12 +46,14 @@ extent-good-requires c κs = search needs
 returns : tie.Need-returns
 unfolding valid described part
 returns c =
-    let kind = c .before .before .before .before .before .kind in
+    let k = c .before .before .before .before .before .before .before .before .kind in
+    let ca = c .before .before .code-allowed in
     and-of
     (and-of
-    (and-of (and-of (and-of refl (ap (λ n. leb n 1) (kind .ensures .0))) (c .before .before .before .descriptor .ensures))
-    (ap (λ n. eqb n 0) (c .before .before .word-at .ensures .0)))
-    (ap (λ n. eqb n 0) (c .before .word-at2 .ensures .0))) (c .extent-good .ensures)
+    (and-of
+    (and-of (and-of (and-of refl (ap (λ n. leb n 1) (k .ensures .0))) (c .before .before .before .before .before .before .descriptor .ensures)) refl)
+    (ca .ensures ∙ rw (c .before .before .before .before .owner .ensures .0, c .before .before .before .read-code .ensures)))
+    (ap (λ n. eqb n 0) (c .before .word-at .ensures .0))) (c .extent-good .ensures)
 
 pub valid-spec : {M : Type 1} → statement M
 valid-spec =
@@ -54,7 +65,10 @@ valid-spec =
     part-descriptor-start
     part-descriptor-end
     descriptor-requires
+    shared-slice-read-result-2
+    owner-requires
+    read-code-requires
+    code-allowed-requires
     word-at-requires
-    word-at-requires-2
     extent-good-requires
     returns)

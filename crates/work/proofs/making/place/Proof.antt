@@ -65,7 +65,7 @@ allocate-requires : tie.Need-allocate-requires
 allocate-requires c κs =
     let k = c .before .before .before .before in
     let s = entry k in
-    room-found _ _ _ _ _ _ _ _ (s .pre .0) (s .pre .1) (s .pre .2) (s .pre .3) (s .pre .4) (s .pre .5) (some-found _ _ (s .pre .0) _ _ (found k))
+    room-found _ _ _ _ _ _ (s .args .read-code) _ _ (s .pre .0) (s .pre .1) (s .pre .2) (s .pre .3) (s .pre .4) (s .pre .5) (s .pre .6) (some-found _ _ (s .pre .0) _ _ (found k))
     (found-slot _ _ (s .pre .0) _ _ (found k)) (c .before .before .lowest-start .ensures) (c .before .if1 .left)
 
 same-length-3 : tie.Need-same-length-3

@@ -17,6 +17,7 @@ use Rattle.luns.specs.declared.Mode.{Mode}
 use Rattle.luns.specs.declared.Place.the-variants.{Fresh, At}
 use Rattle.luns.specs.Luns.{freeLun, movedTo}
 use Rattle.luns.specs.Modes.{modeOf, writes}
+use Rattle.luns.proofs.Fitting.{may-read}
 use Rattle.work.specs.Volumes.{slotOf}
 use Rattle.desk.specs.Desk.{State, lunAt, mine, spare}
 use Rattle.desk.specs.Calls.{Assign, Close, Rewind, done, quietly, startOf, seatOf, newLun}
@@ -50,7 +51,7 @@ start-fresh v e m end h = rw (stops h)
     stops (inr (inr h)) = none end (writes m) _ (inr (inr (lt-leb 1 (extent v e) (omega arith))))
 
 -- Assign
-module _ (caller lun : ℕ) (desc : List ℕ) (mode : ℕ) (end : Bool) (s : State) (T : AssignTold s caller lun desc mode end) where
+module _ (caller lun : ℕ) (desc : List ℕ) (mode : ℕ) (end : Bool) (offered : ℕ) (s : State) (T : AssignTold s caller lun desc mode end offered) where
   lun-in : lun < lunCount
   unfolding spare
   lun-in = ltb-true _ _ (and-right _ _ (and-left _ _ (T .is-spare)))
@@ -59,7 +60,7 @@ module _ (caller lun : ℕ) (desc : List ℕ) (mode : ℕ) (end : Bool) (s : Sta
   unfolding named
   its-file = sym (same-true _ _ (file-named (T .named-file)))
 
-  seats : Seats s (carried (Assign caller lun desc mode end) s) caller lun desc mode end (newLun (s .image) caller desc mode end)
+  seats : Seats s (carried (Assign caller lun desc mode end offered) s) caller lun desc mode end offered (newLun (s .image) caller desc mode end offered)
   unfolding done quietly newLun seatOf
   seats = record {
     answered = refl;
@@ -70,14 +71,16 @@ module _ (caller lun : ℕ) (desc : List ℕ) (mode : ℕ) (end : Bool) (s : Sta
     its-slot = refl;
     its-file = its-file;
     its-mode = refl;
+    its-code = refl;
+    may-read = may-read (s .image) (newLun (s .image) caller desc mode end offered) (T .read-right);
     at-last = start-last (s .image) _ (modeOf mode) end;
     fresh-else = start-fresh (s .image) _ (modeOf mode) end;
   }
 
 pub accepted-assign : AcceptedAssign
-accepted-assign s caller lun desc mode end h =
-    let a = accepted (Assign caller lun desc mode end) s h in
-    (newLun (s .image) caller desc mode end, rw (a .is) (seats caller lun desc mode end s (assign-told caller lun desc mode end s a)))
+accepted-assign s caller lun desc mode end offered h =
+    let a = accepted (Assign caller lun desc mode end offered) s h in
+    (newLun (s .image) caller desc mode end offered, rw (a .is) (seats caller lun desc mode end offered s (assign-told caller lun desc mode end offered s a)))
 
 -- Close and rewind
 frees : (caller lun : ℕ) (s : State) → BeginTold s (mine (s .desk) caller lun) → Frees s (carried (Close caller lun) s) lun

@@ -1,0 +1,5 @@
+pub mod Formatted
+pub mod Allocated
+pub mod Deleted
+pub mod Seated
+pub mod Buffers

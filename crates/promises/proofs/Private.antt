@@ -1,0 +1,4 @@
+pub mod Seats
+pub mod SeatedRuns
+pub mod ByRight
+pub mod OldVolumes

@@ -1,0 +1,93 @@
+-- Private means private: who reads a file that has a read-protect code, over runs; and volumes from before there were codes.
+use mathlib.Core.Bool.{Bool, true, false}
+use mathlib.Core.List.{List, []}
+use mathlib.Core.Logic.{_≢_}
+use mathlib.Core.Path.{_≡_}
+use Prim.Native.Nat.{ℕ, _<_}
+use lib.Dec.{eqb, leb}
+use lib.ListN.{take, getD}
+use Rattle.lists.specs.Lists.{_and_, _or_, all}
+use Rattle.lists.specs.Parts.{byte, word}
+use Rattle.volume.specs.Names.{descriptor}
+use Rattle.volume.specs.Volume.{sound1}
+use Rattle.volume.specs.Directory.{entries, entryAt, unused, kind, owner, described, readCode, extentGood, namesDiffer}
+use Rattle.ownership.specs.Blocks.{sound3}
+use Rattle.ownership.specs.Owners.{sound5}
+use Rattle.files.specs.Files.{sound4, sound}
+use Rattle.files.specs.Rights.{hasRight, mayRead}
+use Rattle.work.specs.declared.Refusal.the-variants.{NotSound}
+use Rattle.desk.specs.declared.Answer.the-variants.{Refused}
+use Rattle.desk.specs.Desk.{State, emptyDesk, fileOf}
+use Rattle.desk.specs.Answers.{Outcome, outcome, accepts, moved}
+use Rattle.desk.specs.Calls.{Call, Format, Check, Assign, Read, given, step}
+use Rattle.promises.specs.Runs.{next, run, trace}
+use Rattle.promises.specs.Sectors.{Accepts, AllBytes, File}
+
+-- Call k of a run, the state that it finds, and its outcome in the trace. Where there is none: a check, and a refusal
+abbrev pub callAt : List Call → ℕ → Call
+callAt cs k = getD cs k Check
+
+abbrev pub foundAt : List Call → State → ℕ → State
+foundAt cs s k = run (take k cs) s
+
+abbrev pub outcomeAt : List Call → State → ℕ → Outcome
+outcomeAt cs s k = getD (trace cs s) k (outcome (Refused NotSound) [] emptyDesk [])
+
+-- call j is an accepted assign by which the caller offered this code for the file of this descriptor, and got the LUN
+pub record Offered (cs : List Call) (s : State) (caller lun : ℕ) (desc : List ℕ) (rc j : ℕ) : Type 0 where
+  pub mode : ℕ
+  pub end : Bool
+  pub is-assign : callAt cs j ≡ Assign caller lun desc mode end rc
+  pub is-accepted : accepts (outcomeAt cs s j .answer) ≡ true
+
+-- what lets a caller read the file of entry e by a LUN, as call k: its code is 0; the caller is its owner or user 0; its code was offered
+pub data ByRight (cs : List Call) (s : State) (k caller lun : ℕ) (e : List ℕ) : Type 0 where
+  unprotected : readCode e ≡ 0 → ByRight cs s k caller lun e
+  has-right : hasRight caller (owner e) ≡ true → ByRight cs s k caller lun e
+  was-offered : (j : ℕ) → j < k → Offered cs s caller lun (described e) (readCode e) j → ByRight cs s k caller lun e
+
+-- "every accepted read by a LUN of theirs is of a file whose code is 0 or was offered": over any run from a formatted volume
+abbrev pub ReadByRight : Type 0
+ReadByRight =
+    (s : State) (id : List ℕ) (n : ℕ) → Accepts (Format id n) s → (cs : List Call) → AllBytes cs
+    → (k caller lun sel num : ℕ) (fmt : Bool) (buf : List ℕ) → callAt cs k ≡ Read caller lun sel num fmt buf
+    → accepts (outcomeAt cs (next (Format id n) s) k .answer) ≡ true
+    → ByRight cs (next (Format id n) s) k caller lun (fileOf (foundAt cs (next (Format id n) s) k) lun)
+
+-- "a caller who is neither owner nor user 0 and never offered the right code never gets a byte of a file with a code other than 0"
+abbrev pub NeverOffered : List Call → ℕ → ℕ → List ℕ → ℕ → Type 0
+NeverOffered cs k caller desc rc = (j : ℕ) → j < k → (lun mode : ℕ) (end : Bool) → callAt cs j ≢ Assign caller lun desc mode end rc
+
+pub record Stranger (cs : List Call) (k caller : ℕ) (e : List ℕ) : Type 0 where
+  pub is-protected : readCode e ≢ 0
+  pub has-no-right : hasRight caller (owner e) ≡ false
+  pub never-offered : NeverOffered cs k caller (described e) (readCode e)
+
+abbrev pub NeverAByte : Type 0
+NeverAByte =
+    (s : State) (id : List ℕ) (n : ℕ) → Accepts (Format id n) s → (cs : List Call) → AllBytes cs
+    → (k caller lun sel num : ℕ) (fmt : Bool) (buf : List ℕ) → callAt cs k ≡ Read caller lun sel num fmt buf
+    → Stranger cs k caller (fileOf (foundAt cs (next (Format id n) s) k) lun)
+    → (outcomeAt cs (next (Format id n) s) k .buffer ≡ buf) × (moved (outcomeAt cs (next (Format id n) s) k .answer) ≡ 0)
+
+-- .. for no call but a read puts anything into a buffer
+abbrev pub OnlyReadsHandOver : Type 0
+OnlyReadsHandOver =
+    (c : Call) (s : State)
+    → ((caller lun sel num : ℕ) (fmt : Bool) (buf : List ℕ) → c ≢ Read caller lun sel num fmt buf) → step c s .buffer ≡ given c
+
+-- "Old volumes have 0 there and stay sound": soundness as it was, with bytes 22-23 of an entry zero
+unfoldable pub validBefore : List ℕ → Bool
+validBefore e =
+    eqb (byte e 0) 1 and leb (kind e) 1 and descriptor (described e) and eqb (word e 22) 0 and eqb (word e 30) 0 and extentGood e
+
+unfoldable pub soundBefore : List ℕ → Bool
+soundBefore img =
+    sound1 img and (all (λ e. unused e or validBefore e) (entries img) and namesDiffer (entries img)) and sound3 img and sound4 img
+    and sound5 img
+
+-- .. and every file on them is for everyone to read, whatever code is offered
+pub record OldVolumes : Type 0 where
+  pub stay-sound : (img : List ℕ) → soundBefore img ≡ true → sound img ≡ true
+  pub stay-readable : (img : List ℕ) → soundBefore img ≡ true → (k : ℕ) → File img k
+      → (caller offered : ℕ) → mayRead caller offered (entryAt img k) ≡ true
