@@ -108,9 +108,12 @@ refusal-not : (c : Call) (s : State) (r : Refusal) → accepts (refusal c s r .a
 unfolding accepts
 refusal-not c s r = refl
 
-pub carried-accepts : (c : Call) (s : State) → accepts (carried c s .answer) ≡ true
+carried-accepts : (c : Call) (s : State) → accepts (carried c s .answer) ≡ true
 unfolding accepts
 carried-accepts c s = refl
+
+pub accepts-it : (c : Call) (s : State) → Accepted c s → accepts (step c s .answer) ≡ true
+accepts-it c s a = ap (λ (o : Outcome). accepts (o .answer)) (a .is) ∙ carried-accepts c s
 
 pub accepted : (c : Call) (s : State) → accepts (step c s .answer) ≡ true → Accepted c s
 accepted c s h =

@@ -9,10 +9,10 @@ use lib.ListN.{length, length-append, length-drop}
 use Rattle.lists.specs.Parts.{over}
 use Rattle.work.specs.Transfers.{moving, writing, updating}
 use Rattle.desk.specs.Desk.{State}
-use Rattle.desk.specs.Answers.{Outcome, accepts}
+use Rattle.desk.specs.Answers.{Outcome}
 use Rattle.desk.specs.Calls.{Call, Format, Check, Allocate, Assign, Close, Rewind, Delete, Read, Write, Update, given, done, quietly, checked, transferred, step}
 use Rattle.promises.specs.Private.{OnlyReadsHandOver}
-use Rattle.promises.proofs.Passing.{refused-or-accepted, carried-accepts}
+use Rattle.promises.proofs.Passing.{refused-or-accepted, accepts-it}
 use Rattle.promises.proofs.Reading.{accepted-read}
 
 -- each call leaves it, or is a read
@@ -56,7 +56,7 @@ read-long s caller lun sel num fmt buf =
     ⊎-elim
     (λ t. ap (λ (o : Outcome). length (o .buffer)) (t .is))
     (λ a.
-    let t = accepted-read s caller lun sel num fmt buf (ap (λ (o : Outcome). accepts (o .answer)) (a .is) ∙ carried-accepts (Read caller lun sel num fmt buf) s) in
+    let t = accepted-read s caller lun sel num fmt buf (accepts-it _ s a) in
     ap length (t .1 .buffer-has) ∙ over-long (t .0) buf (t .1 .room))
     (refused-or-accepted (Read caller lun sel num fmt buf) s)
 

@@ -18,7 +18,7 @@ use Rattle.promises.specs.Touches.{ends}
 use Rattle.promises.specs.Sectors.{Bytes, File}
 use Rattle.promises.specs.Lasting.{Lasting, lasts, Lasts, AppendEndsNone}
 use Rattle.promises.specs.Contents.{slotHeld}
-use Rattle.promises.proofs.Passing.{carried-accepts, refused-or-accepted, accepted}
+use Rattle.promises.proofs.Passing.{accepts-it, refused-or-accepted, accepted}
 use Rattle.promises.proofs.Units.{lasting-image, lasting-trans, file-after, extent-records}
 use Rattle.promises.proofs.Preserved.{preserves-next, sound-next}
 use Rattle.promises.proofs.Told.{write-told}
@@ -35,7 +35,7 @@ step-lasts c s b k i f h n =
     ⊎-elim
     (λ t. rw (ap (λ (o : Outcome). o .image) (t .is)) (lasting-image (s .image) k i h))
     (λ a.
-    let yes-done : accepts (step c s .answer) ≡ true = ap (λ (o : Outcome). accepts (o .answer)) (a .is) ∙ carried-accepts c s in
+    let yes-done : accepts (step c s .answer) ≡ true = accepts-it c s a in
     preserves-next c s b .units k i f h (not-ended _ _ n yes-done))
     (refused-or-accepted c s)
 

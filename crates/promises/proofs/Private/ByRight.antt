@@ -1,7 +1,7 @@
 -- What is read of a protected file is read by right, over any run from a formatted volume.
 use mathlib.Core.Bool.{Bool, true, false, true≢false}
 use mathlib.Core.List.{List}
-use mathlib.Core.Logic.{_≢_, _⊎_, ⊎-elim}
+use mathlib.Core.Logic.{⊎-elim}
 use mathlib.Core.Path.{_≡_, refl, ap, sym, subst, _∙_}
 use Prim.Native.Nat.{ℕ, _<_, _≤_}
 use native.Mathlib.Decide.{decLt}
@@ -9,17 +9,15 @@ use native.Mathlib.Omega.{arith}
 use lib.Dec.{eqb}
 use lib.ListN.{length, List·getD-eq-default}
 use borrow.Author.Tests.{eqb-true}
-use Rattle.lists.specs.Lists.{_or_}
 use Rattle.lists.proofs.Tests.{and-right, not-both, or-cases}
 use Rattle.volume.specs.Directory.{described, owner, readCode}
 use Rattle.files.specs.Rights.{hasRight, mayRead}
 use Rattle.luns.specs.declared.Lun.{Lun}
-use Rattle.luns.specs.Modes.{reads}
 use Rattle.luns.proofs.Fitting.{may-read}
 use Rattle.desk.specs.Desk.{State, lunAt, mine, fileOf}
 use Rattle.desk.specs.Answers.{Outcome, accepts, moved}
 use Rattle.desk.specs.Calls.{Call, Format, Check, Read, given, done, quietly, step}
-use Rattle.promises.specs.Runs.{next, run}
+use Rattle.promises.specs.Runs.{next}
 use Rattle.promises.specs.Sectors.{Good, Accepts, AllBytes}
 use Rattle.promises.specs.Private.{callAt, foundAt, outcomeAt, Offered, ByRight, unprotected, has-right, was-offered, ReadByRight, Stranger, NeverAByte}
 use Rattle.promises.proofs.Passing.{Accepted, accepted, refused-or-accepted, next-accepted}

@@ -5,15 +5,13 @@ use mathlib.Core.Logic.{_⊎_, inl, inr, ⊎-elim}
 use mathlib.Core.Path.{_≡_, refl, sym, _∙_}
 use Prim.Native.Nat.{ℕ, zero, suc, _<_}
 use native.Mathlib.Omega.{arith}
-use lib.ListN.{length, take}
-use Rattle.lists.specs.Lists.{_or_}
+use lib.ListN.{length}
 use Rattle.volume.specs.Directory.{described}
-use Rattle.desk.specs.Desk.{State, state, lunAt}
-use Rattle.desk.specs.Calls.{Call, Assign, given, step}
+use Rattle.desk.specs.Desk.{State, lunAt}
+use Rattle.desk.specs.Calls.{Call, Assign, step}
 use Rattle.promises.specs.Runs.{next, run, trace}
 use Rattle.promises.specs.Sectors.{Good, AllBytes}
 use Rattle.promises.specs.Private.{callAt, foundAt, outcomeAt, Offered}
-use Rattle.promises.proofs.Passing.{accepted}
 use Rattle.promises.proofs.Held.{entryOf}
 use Rattle.promises.proofs.Preserved.{good-next}
 use Rattle.promises.proofs.Private.Seats.{SameSeat, same-seat, NewSeat, seat-step}
@@ -72,8 +70,3 @@ unfolding trace run
 outcome-at [] s k h = absurd (omega arith)
 outcome-at (c ∷ cs) s zero h = refl
 outcome-at (c ∷ cs) s (suc k) h = outcome-at cs (next c s) k (omega arith)
-
-pub bytes-take : (cs : List Call) (k : ℕ) → AllBytes cs → AllBytes (take k cs)
-bytes-take cs zero b = tt
-bytes-take [] (suc k) b = tt
-bytes-take (c ∷ cs) (suc k) b = (b .0, bytes-take cs k (b .1))

@@ -1,7 +1,7 @@
 -- One call: who holds a LUN after it held it before, or was given it by an accepted assign.
 use mathlib.Core.Bool.{Bool, true, false, true≢false}
 use mathlib.Core.List.{List, [], _∷_}
-use mathlib.Core.Logic.{_≢_, _⊎_, inl, inr, ⊎-elim}
+use mathlib.Core.Logic.{_⊎_, inl, inr, ⊎-elim}
 use mathlib.Core.Path.{_≡_, refl, ap, sym, subst, _∙_}
 use Prim.Native.Nat.{ℕ, zero, suc, _<_, _≤_}
 use native.Mathlib.Decide.{ℕ-discrete, decLt}
@@ -9,7 +9,6 @@ use native.Mathlib.Omega.{arith}
 use lib.ListN.{length, getD, set, replicate, List·getD-eq-default}
 use borrow.Author.Tests.{eqb-true, eq-eqb, ne-eqb, not-true}
 use Rattle.numbers.specs.Numbers.{lunCount}
-use Rattle.lists.specs.Lists.{_or_}
 use Rattle.lists.proofs.Tests.{both-true, is-false}
 use Rattle.lists.proofs.Lists.{all-at, same-true}
 use Rattle.lists.proofs.IndexFound.{none-all}
@@ -24,14 +23,14 @@ use Rattle.work.specs.Volumes.{slotOf}
 use Rattle.desk.specs.declared.Desk.{Desk}
 use Rattle.desk.specs.Desk.{State, state, emptyDesk, lunAt, putLun, fileOf}
 use Rattle.desk.specs.Answers.{Outcome, accepts}
-use Rattle.desk.specs.Calls.{Units, Call, Format, Check, Allocate, Assign, Close, Rewind, Delete, Read, Write, Update, given, touch, done, quietly, checked, transferred, after}
+use Rattle.desk.specs.Calls.{Units, Call, Format, Check, Allocate, Assign, Close, Rewind, Delete, Read, Write, Update, touch, done, quietly, checked, transferred, after}
 use Rattle.desk.specs.Calls.{newLun, seatOf, step}
 use Rattle.desk.proofs.DeskFitting.{lun-fits}
 use Rattle.promises.specs.Runs.{next}
 use Rattle.promises.specs.Touches.{changes}
-use Rattle.promises.specs.Sectors.{Good, Accepts, File}
+use Rattle.promises.specs.Sectors.{Good, File}
 use Rattle.promises.specs.Contents.{slotHeld}
-use Rattle.promises.proofs.Passing.{Accepted, accepted, refused-or-accepted, next-refused, next-accepted, carriedTo, carried-accepts}
+use Rattle.promises.proofs.Passing.{Accepted, refused-or-accepted, next-refused, next-accepted, carriedTo, accepts-it}
 use Rattle.promises.proofs.Told.{assign-told, delete-told}
 use Rattle.promises.proofs.Held.{entryOf}
 use Rattle.promises.proofs.NamedFile.{file-named}
@@ -154,18 +153,15 @@ module _ (s : State) (g : Good s) (j : ℕ) where
       → lunAt (s .desk) j .held ≡ true → entryAt (done c s .image) (slotHeld s j) ≡ entryOf s j
   left-as c a f h = sym (ap (λ (o : Outcome). entryAt (o .image) (slotHeld s j)) (a .is)) ∙ f h
 
-  accepts-it : (c : Call) → Accepted c s → Accepts c s
-  accepts-it c a = ap (λ (o : Outcome). accepts (o .answer)) (a .is) ∙ carried-accepts c s
-
   wrote : (caller lun sel num : ℕ) (fmt : Bool) (bs : List ℕ) → Accepted (Write caller lun sel num fmt bs) s
       → entryAt (step (Write caller lun sel num fmt bs) s .image) (slotHeld s lun) ≡ entryOf s lun
   unfolding fileOf
-  wrote caller lun sel num fmt bs a = accepted-write s caller lun sel num fmt bs (accepts-it _ a) .entry-same
+  wrote caller lun sel num fmt bs a = accepted-write s caller lun sel num fmt bs (accepts-it _ s a) .entry-same
 
   updated : (caller lun sel num : ℕ) (fmt : Bool) (bs : List ℕ) → Accepted (Update caller lun sel num fmt bs) s
       → entryAt (step (Update caller lun sel num fmt bs) s .image) (slotHeld s lun) ≡ entryOf s lun
   unfolding fileOf
-  updated caller lun sel num fmt bs a = accepted-update s (g .volume .is-bytes) caller lun sel num fmt bs (accepts-it _ a) .entry-same
+  updated caller lun sel num fmt bs a = accepted-update s (g .volume .is-bytes) caller lun sel num fmt bs (accepts-it _ s a) .entry-same
 
   seat-assigned : (caller lun : ℕ) (desc : List ℕ) (mode : ℕ) (end : Bool) (offered : ℕ) → Accepted (Assign caller lun desc mode end offered) s
       → lunAt (putLun (s .desk) lun (newLun (s .image) caller desc mode end offered)) j .held ≡ true
@@ -185,7 +181,7 @@ module _ (s : State) (g : Good s) (j : ℕ) where
         is-assign = λ i.
             Assign (sym (ap (λ (v : Lun). v .user) (t .1)) i) (sym (t .0) i) (sym (ap (λ (v : Lun). described (entryAt (s .image) (v .slot))) (t .1) ∙ file) i) mode end
             (sym (ap (λ (v : Lun). v .offered) (t .1)) i);
-        is-accepted = accepts-it c a;
+        is-accepted = accepts-it c s a;
       }))
       (lun-put (s .desk) lun j u)
 
