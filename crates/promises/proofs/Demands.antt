@@ -31,6 +31,7 @@ use Rattle.promises.proofs.Fronts.FrontRuns.{requests-are-visits, reque
 use Rattle.promises.proofs.Effects.Buffers.{only-reads-hand-over}
 use Rattle.promises.proofs.Private.ByRight.{read-by-right, never-a-byte}
 use Rattle.promises.proofs.Private.OldVolumes.{old-volumes}
+use Rattle.promises.proofs.Fronts.ReadsThrough.{read-by-right-through}
 use Rattle.promises.proofs.Conclusions.{not-all-refused, not-all-done, not-unchanged, not-only-E, check-counts}
 
 pub demands : Demands
@@ -95,6 +96,7 @@ demands = record {
   one-ending = one-ending;
   front-steps = front-steps;
   read-by-right = read-by-right;
+  read-by-right-through = read-by-right-through;
   never-a-byte = never-a-byte;
   only-reads-hand-over = only-reads-hand-over;
   old-volumes = old-volumes;

@@ -5,3 +5,4 @@ pub mod FrontReadBack
 pub mod FrontRuns
 pub mod PackedDesks
 pub mod PlainDesks
+pub mod ReadsThrough

@@ -16,7 +16,7 @@ use Rattle.promises.specs.Fronts.{FrontInTable, RequestRefusalKeeps, Fro
 use Rattle.promises.specs.Fronts.{OnlyReadsFill, FrontRefusedExactly, AcceptedThrough, WrittenThrough, WrittenSectorThrough}
 use Rattle.promises.specs.Fronts.{UpdatedThrough, RequestsAreVisits, RequestsAreRuns, FrontStaysGood, OneEnding}
 use Rattle.promises.specs.FrontSteps.{FrontSteps}
-use Rattle.promises.specs.Private.{ReadByRight, NeverAByte, OnlyReadsHandOver, OldVolumes}
+use Rattle.promises.specs.Private.{ReadByRight, ReadByRightThrough, NeverAByte, OnlyReadsHandOver, OldVolumes}
 use Rattle.promises.specs.Conclusions.{NotAllRefused, NotAllDone, NotUnchanged, NotOnlyE, CheckCounts}
 use Rattle.promises.specs.Steps.{SmallVolume}
 use Rattle.promises.specs.Table.{TableDiffers}
@@ -106,6 +106,7 @@ pub record Demands : Type 0 where
   -- Private means private: "over any run from a formatted volume, a caller who is neither owner nor user 0 and never offered the right code
   -- never gets a byte of a file with a code other than 0"; "Old volumes have 0 there and stay sound"
   pub read-by-right : ReadByRight
+  pub read-by-right-through : ReadByRightThrough
   pub never-a-byte : NeverAByte
   pub only-reads-hand-over : OnlyReadsHandOver
   pub old-volumes : OldVolumes

@@ -1,11 +1,11 @@
 -- Private means private: who reads a file that has a read-protect code, over runs; and volumes from before there were codes.
 use mathlib.Core.Bool.{Bool, true, false}
-use mathlib.Core.List.{List, []}
+use mathlib.Core.List.{List, [], _∷_}
 use mathlib.Core.Logic.{_≢_}
 use mathlib.Core.Path.{_≡_}
 use Prim.Native.Nat.{ℕ, _<_}
 use lib.Dec.{eqb, leb}
-use lib.ListN.{take, getD}
+use lib.ListN.{length, take, getD}
 use Rattle.lists.specs.Lists.{_and_, _or_, all}
 use Rattle.lists.specs.Parts.{byte, word}
 use Rattle.volume.specs.Names.{descriptor}
@@ -17,9 +17,12 @@ use Rattle.files.specs.Files.{sound4, sound}
 use Rattle.files.specs.Rights.{hasRight, mayRead}
 use Rattle.work.specs.declared.Refusal.the-variants.{NotSound}
 use Rattle.desk.specs.declared.Answer.the-variants.{Refused}
-use Rattle.desk.specs.Desk.{State, emptyDesk, fileOf}
+use Rattle.desk.specs.Desk.{State, state, emptyDesk, fileOf}
 use Rattle.desk.specs.Answers.{Outcome, outcome, accepts, moved}
 use Rattle.desk.specs.Calls.{Call, Format, Check, Assign, Read, given, step}
+use Rattle.front.specs.Blocks.{lunIn}
+use Rattle.front.specs.Front.{Lent, serveFormat, front}
+use Rattle.promises.specs.Fronts.{Request, Formats, leaves, imageAfter, bytesAfter, callsMade, RequestBytes, Asks, fileAsked}
 use Rattle.promises.specs.Runs.{next, run, trace}
 use Rattle.promises.specs.Sectors.{Accepts, AllBytes, File}
 
@@ -53,6 +56,15 @@ ReadByRight =
     → (k caller lun sel num : ℕ) (fmt : Bool) (buf : List ℕ) → callAt cs k ≡ Read caller lun sel num fmt buf
     → accepts (outcomeAt cs (next (Format id n) s) k .answer) ≡ true
     → ByRight cs (next (Format id n) s) k caller lun (fileOf (foundAt cs (next (Format id n) s) k) lun)
+
+-- the same through the front: a block that reads and is answered $00, after a format and any requests; cs are the calls that these made
+abbrev pub ReadByRightThrough : Type 0
+ReadByRightThrough =
+    (id : List ℕ) (n : ℕ) (img bs : List ℕ) → serveFormat id n img bs .returned ≡ 0x00 → (rs : List Request) → RequestBytes rs
+    → (cs : List Call) → cs ≡ callsMade rs (leaves (Formats id n) img bs .image) (leaves (Formats id n) img bs .desk)
+    → (caller : ℕ) (l : Lent) → l .image ≡ imageAfter (Formats id n ∷ rs) img bs → l .desk ≡ bytesAfter (Formats id n ∷ rs) img bs
+    → Asks 0x01 l → front caller l .returned ≡ 0x00
+    → ByRight cs (next (Format id n) (state img emptyDesk)) (length cs) caller (lunIn (l .block)) (fileAsked l)
 
 -- "a caller who is neither owner nor user 0 and never offered the right code never gets a byte of a file with a code other than 0"
 abbrev pub NeverOffered : List Call → ℕ → ℕ → List ℕ → ℕ → Type 0

@@ -179,14 +179,14 @@ both-bytes : (cs ds : List Call) → AllBytes cs → AllBytes ds → AllBytes (c
 both-bytes [] ds x y = y
 both-bytes (c ∷ cs) ds x y = (x .0, both-bytes cs ds (x .1) y)
 
-all-made : (rs : List Request) (img bs : List ℕ) → RequestBytes rs → AllBytes (callsMade rs img bs)
+pub all-made : (rs : List Request) (img bs : List ℕ) → RequestBytes rs → AllBytes (callsMade rs img bs)
 unfolding callsMade
 all-made [] img bs h = tt
 all-made (r ∷ rs) img bs h = both-bytes (callsBy (visitBy r img bs)) (callsMade rs (leaves r img bs .image) (leaves r img bs .desk)) (made-bytes r img bs (h .0))
     (all-made rs (leaves r img bs .image) (leaves r img bs .desk) (h .1))
 
 -- a format that is not refused, through the front
-format-accepted : (id : List ℕ) (n : ℕ) (img bs : List ℕ) → serveFormat id n img bs .returned ≡ 0x00
+pub format-accepted : (id : List ℕ) (n : ℕ) (img bs : List ℕ) → serveFormat id n img bs .returned ≡ 0x00
     → (length bs ≡ deskSize) × Accepts (Format id n) (state img emptyDesk)
 unfolding serveFormat ruled
 format-accepted id n img bs z = go (eqb (length bs) deskSize) refl z (which (step (Format id n) (state img emptyDesk) .answer))
@@ -274,7 +274,7 @@ requests-are-runs (r ∷ rs) s p b =
     (the-rest rs _ _ (run cs s) (o .image-is) (o .desk-is) (requests-are-runs rs (run cs s) (o .still-plain) (b .1))))
 
 -- Demand 3: a format that is accepted, and then requests
-formatted-run : (id : List ℕ) (n : ℕ) (img bs : List ℕ) → length bs ≡ deskSize → Accepts (Format id n) (state img emptyDesk) → (rs : List Request) → RequestBytes rs
+pub formatted-run : (id : List ℕ) (n : ℕ) (img bs : List ℕ) → length bs ≡ deskSize → Accepts (Format id n) (state img emptyDesk) → (rs : List Request) → RequestBytes rs
     → SameRun (Formats id n ∷ rs) img bs (run (callsMade rs (leaves (Formats id n) img bs .image) (leaves (Formats id n) img bs .desk)) (next (Format id n) (state img emptyDesk)))
 formatted-run id n img bs e h rs b =
     one-more (Formats id n) rs img bs _

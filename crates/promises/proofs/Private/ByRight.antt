@@ -27,6 +27,51 @@ use Rattle.promises.proofs.Preserved.{good-format}
 use Rattle.promises.proofs.Private.Seats.{empty-free}
 use Rattle.promises.proofs.Private.SeatedRuns.{seated-run, outcome-at}
 
+-- An accepted read as call k of a run from a good state in which no LUN is held
+module _
+    (cs : List Call) (t : State) (g : Good t) (none : (j : ℕ) → lunAt (t .desk) j .held ≡ false) (b : AllBytes cs) (k caller lun sel num : ℕ) (fmt : Bool)
+    (buf : List ℕ) where
+  pub by-right : Accepted (Read caller lun sel num fmt buf) (foundAt cs t k) → ByRight cs t k caller lun (fileOf (foundAt cs t k) lun)
+  unfolding mayRead fileOf mine
+  by-right a = go (eqb (readCode e) 0) (eqb (u .offered) (readCode e)) refl refl
+    where
+      f : State
+      f = foundAt cs t k
+
+      T : ReadTold f caller lun sel num fmt (length buf)
+      T = read-told caller lun sel num fmt buf f a
+
+      u : Lun
+      u = lunAt (f .desk) lun
+
+      e : List ℕ
+      e = entryOf f lun
+
+      H : Held f lun
+      H = held-by f caller lun (T .opened .is-ready) (T .opened .is-mine)
+
+      its-user : u .user ≡ caller
+      its-user = eqb-true _ _ (and-right _ _ (T .opened .is-mine))
+
+      may : mayRead (u .user) (u .offered) e ≡ true
+      may = may-read (f .image) u (H .lun-ok .read-right) (T .opened .suits)
+
+      go : (x y : Bool) → eqb (readCode e) 0 ≡ x → eqb (u .offered) (readCode e) ≡ y → ByRight cs t k caller lun (entryOf f lun)
+      go true y p q = unprotected (eqb-true _ _ p)
+      go false false p q = has-right (subst (λ (c : ℕ). hasRight c (owner e) ≡ true) its-user (or-cases _ _ may (not-both _ _ p q)))
+      go false true p q =
+          ⊎-elim
+          (λ m. absurd (true≢false (sym (m .was-held) ∙ none lun)))
+          (λ m. was-offered (m .place) (m .earlier)
+          (subst (λ (c : ℕ). Offered cs t c lun (described e) (readCode e) (m .place)) its-user
+          (subst (λ (rc : ℕ). Offered cs t (u .user) lun (described e) rc (m .place)) (eqb-true _ _ q) (m .offer))))
+          (seated-run cs t g b k lun (H .is-held))
+
+-- a formatted volume is such a state
+pub none-held : (s : State) (id : List ℕ) (n : ℕ) → Accepts (Format id n) s → (j : ℕ) → lunAt (next (Format id n) s .desk) j .held ≡ false
+unfolding done quietly
+none-held s id n h j = rw (next-accepted (Format id n) s (accepted (Format id n) s h)) (empty-free j)
+
 -- a call that reads is there
 no-check : (caller lun sel num : ℕ) (fmt : Bool) (buf : List ℕ) → Check ≡ Read caller lun sel num fmt buf → ⊥
 no-check caller lun sel num fmt buf e = let z : _≡_ {A = ℕ} 0 1 = cc in omega arith
@@ -53,51 +98,14 @@ module _
   unfolding f t
   outcome-is = outcome-at cs (next (Format id n) s) k inside ∙ ap (λ (c : Call). step c (foundAt cs (next (Format id n) s) k)) is-read
 
-  good-t : Good t
-  unfolding t
-  good-t = good-format s id n h
-
-  none-held : (j : ℕ) → lunAt (t .desk) j .held ≡ false
-  unfolding t done quietly
-  none-held j = rw (next-accepted (Format id n) s (accepted (Format id n) s h)) (empty-free j)
-
-  by-right : Accepted (Read caller lun sel num fmt buf) f → ByRight cs t k caller lun (fileOf f lun)
-  unfolding f mayRead fileOf mine
-  by-right a = go (eqb (readCode e) 0) (eqb (u .offered) (readCode e)) refl refl
-    where
-      T : ReadTold f caller lun sel num fmt (length buf)
-      T = read-told caller lun sel num fmt buf f a
-
-      u : Lun
-      u = lunAt (f .desk) lun
-
-      e : List ℕ
-      e = entryOf f lun
-
-      H : Held f lun
-      H = held-by f caller lun (T .opened .is-ready) (T .opened .is-mine)
-
-      its-user : u .user ≡ caller
-      its-user = eqb-true _ _ (and-right _ _ (T .opened .is-mine))
-
-      may : mayRead (u .user) (u .offered) e ≡ true
-      may = may-read (f .image) u (H .lun-ok .read-right) (T .opened .suits)
-
-      go : (x y : Bool) → eqb (readCode e) 0 ≡ x → eqb (u .offered) (readCode e) ≡ y → ByRight cs t k caller lun (entryOf f lun)
-      go true y p q = unprotected (eqb-true _ _ p)
-      go false false p q = has-right (subst (λ (c : ℕ). hasRight c (owner e) ≡ true) its-user (or-cases _ _ may (not-both _ _ p q)))
-      go false true p q =
-          ⊎-elim
-          (λ m. absurd (true≢false (sym (m .was-held) ∙ none-held lun)))
-          (λ m. was-offered (m .place) (m .earlier)
-          (subst (λ (c : ℕ). Offered cs t c lun (described e) (readCode e) (m .place)) its-user
-          (subst (λ (rc : ℕ). Offered cs t (u .user) lun (described e) rc (m .place)) (eqb-true _ _ q) (m .offer))))
-          (seated-run cs t good-t b k lun (H .is-held))
+  of-read : Accepted (Read caller lun sel num fmt buf) f → ByRight cs t k caller lun (fileOf f lun)
+  unfolding f t
+  of-read = by-right cs (next (Format id n) s) (good-format s id n h) (none-held s id n h) b k caller lun sel num fmt buf
 
   accepted-right : accepts (outcomeAt cs (next (Format id n) s) k .answer) ≡ true
       → ByRight cs (next (Format id n) s) k caller lun (fileOf (foundAt cs (next (Format id n) s) k) lun)
   unfolding f t
-  accepted-right y = by-right (accepted (Read caller lun sel num fmt buf) f (sym (ap (λ (o : Outcome). accepts (o .answer)) outcome-is) ∙ y))
+  accepted-right y = of-read (accepted (Read caller lun sel num fmt buf) f (sym (ap (λ (o : Outcome). accepts (o .answer)) outcome-is) ∙ y))
 
   never : Stranger cs k caller (fileOf (foundAt cs (next (Format id n) s) k) lun)
       → (outcomeAt cs (next (Format id n) s) k .buffer ≡ buf) × (moved (outcomeAt cs (next (Format id n) s) k .answer) ≡ 0)
@@ -106,7 +114,7 @@ module _
       rw outcome-is
       (⊎-elim
       (λ r. (ap (λ (o : Outcome). o .buffer) (r .is), ap (λ (o : Outcome). moved (o .answer)) (r .is)))
-      (λ a. absurd (no (by-right a)))
+      (λ a. absurd (no (of-read a)))
       (refused-or-accepted (Read caller lun sel num fmt buf) f))
     where
       no : ByRight cs t k caller lun (fileOf f lun) → ⊥
