@@ -1,7 +1,8 @@
--- One LUN put: it is what was put, and the others are as they were.
-use mathlib.Core.Path.{_≡_, sym}
-use Prim.Native.Nat.{ℕ, _<_}
+-- One LUN put: it is what was put, and the others are as they were. The LUNs of an empty desk.
+use mathlib.Core.Path.{_≡_, refl, sym}
+use Prim.Native.Nat.{ℕ, zero, suc, _<_}
 use native.Mathlib.Omega.{arith}
+use lib.ListN.{getD, replicate}
 use lib.Seq.{getD-set-same, getD-set-other}
 use Rattle.numbers.specs.Numbers.{lunCount}
 use Rattle.luns.specs.declared.Lun.{Lun}
@@ -9,7 +10,7 @@ use Rattle.luns.specs.declared.Place.the-variants.{At}
 use Rattle.luns.specs.Luns.{freeLun, movedTo}
 use Rattle.luns.proofs.Fitting.{Fitting}
 use Rattle.work.specs.Transfers.{Moving}
-use Rattle.desk.specs.Desk.{State, lunAt, putLun}
+use Rattle.desk.specs.Desk.{State, emptyDesk, lunAt, putLun}
 use Rattle.desk.specs.Calls.{after}
 use Rattle.promises.specs.Contents.{OnlyLun}
 use Rattle.promises.proofs.Held.{Held}
@@ -20,6 +21,16 @@ only-put s lun u l f = record {
   this-lun = getD-set-same (s .desk .luns) lun u freeLun (omega (arith, l, f .sixteen));
   other-luns = λ j n. getD-set-other (s .desk .luns) lun j u freeLun n;
 }
+
+-- every LUN of an empty desk is free
+free-at : (n j : ℕ) → getD (replicate n freeLun) j freeLun ≡ freeLun
+free-at zero j = refl
+free-at (suc n) zero = refl
+free-at (suc n) (suc j) = free-at n j
+
+pub empty-lun : (j : ℕ) → lunAt emptyDesk j ≡ freeLun
+unfolding lunAt emptyDesk
+empty-lun j = free-at lunCount j
 
 -- a transfer: its LUN moves, to n units
 pub only-moved : (s : State) (lun : ℕ) (m : Moving) (n : ℕ) → m .count ≡ n → Held s lun

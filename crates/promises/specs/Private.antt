@@ -67,19 +67,17 @@ ReadByRightThrough =
     → ByRight cs (next (Format id n) (state img emptyDesk)) (length cs) caller (lunIn (l .block)) (fileAsked l)
 
 -- "a caller who is neither owner nor user 0 and never offered the right code never gets a byte of a file with a code other than 0"
-abbrev pub NeverOffered : List Call → ℕ → ℕ → List ℕ → ℕ → Type 0
-NeverOffered cs k caller desc rc = (j : ℕ) → j < k → (lun mode : ℕ) (end : Bool) → callAt cs j ≢ Assign caller lun desc mode end rc
-
-pub record Stranger (cs : List Call) (k caller : ℕ) (e : List ℕ) : Type 0 where
+-- (an offer in vain, by an assign that was refused, counts for nothing)
+pub record Stranger (cs : List Call) (s : State) (k caller : ℕ) (e : List ℕ) : Type 0 where
   pub is-protected : readCode e ≢ 0
   pub has-no-right : hasRight caller (owner e) ≡ false
-  pub never-offered : NeverOffered cs k caller (described e) (readCode e)
+  pub never-offered : (lun j : ℕ) → j < k → Offered cs s caller lun (described e) (readCode e) j → ⊥
 
 abbrev pub NeverAByte : Type 0
 NeverAByte =
     (s : State) (id : List ℕ) (n : ℕ) → Accepts (Format id n) s → (cs : List Call) → AllBytes cs
     → (k caller lun sel num : ℕ) (fmt : Bool) (buf : List ℕ) → callAt cs k ≡ Read caller lun sel num fmt buf
-    → Stranger cs k caller (fileOf (foundAt cs (next (Format id n) s) k) lun)
+    → Stranger cs (next (Format id n) s) k caller (fileOf (foundAt cs (next (Format id n) s) k) lun)
     → (outcomeAt cs (next (Format id n) s) k .buffer ≡ buf) × (moved (outcomeAt cs (next (Format id n) s) k .answer) ≡ 0)
 
 -- .. for no call but a read puts anything into a buffer

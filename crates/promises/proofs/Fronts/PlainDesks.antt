@@ -1,12 +1,12 @@
 -- Every desk that the calls make is plain. A LUN that a call puts is free, or is held and fits the volume; and of a sound volume slots and
 -- places are small, whatever bytes its image is made of.
-use mathlib.Core.Path.{_≡_, refl, sym, _∙_}
+use mathlib.Core.Path.{_≡_, refl, sym, subst, _∙_}
 use mathlib.Core.Bool.{Bool, true, false, true≢false}
 use mathlib.Core.List.{List, [], _∷_}
 use mathlib.Core.Logic.{⊎-elim}
 use Prim.Native.Nat.{ℕ, zero, suc, _+_, _≤_, _<_}
 use native.Mathlib.Omega.{arith}
-use lib.ListN.{length, length-replicate, length-set, getD, replicate, set}
+use lib.ListN.{length, length-replicate, length-set, getD, set}
 use borrow.Author.Tests.{eqb-true, leb-true, ltb-true}
 use Rattle.numbers.specs.Numbers.{lunCount, mostMoved}
 use Rattle.lists.proofs.Tests.{and-left, and-right}
@@ -39,6 +39,7 @@ use Rattle.promises.proofs.Passing.{Accepted, refused-or-accepted}
 use Rattle.promises.proofs.Told.{AssignTold, assign-told, rewind-told, ReadTold, read-told, WriteTold, write-told, UpdateTold, update-told}
 use Rattle.promises.proofs.PlacesExist.{place-one, units-run, units-one}
 use Rattle.promises.proofs.Held.{entryOf, ready-sound, Held, held-by}
+use Rattle.promises.proofs.OneLun.{empty-lun}
 use Rattle.promises.proofs.Preserving.{Rewrites}
 use Rattle.promises.proofs.Seating.{new-fitted}
 use Rattle.promises.proofs.Reading.{place-after}
@@ -46,14 +47,9 @@ use Rattle.promises.proofs.Appending.{appending, append-rewrites}
 use Rattle.promises.proofs.Overwriting.{overwriting, overwrite-rewrites}
 
 -- all LUNs free
-plain-free : (n k : ℕ) → PlainLun (getD (replicate n freeLun) k freeLun)
-plain-free zero k = free-plain
-plain-free (suc n) zero = free-plain
-plain-free (suc n) (suc k) = plain-free n k
-
 plain-empty : PlainDesk emptyDesk
-unfolding emptyDesk
-plain-empty = record { sixteen = length-replicate lunCount freeLun; each-plain = plain-free lunCount }
+unfolding emptyDesk lunAt
+plain-empty = record { sixteen = length-replicate lunCount freeLun; each-plain = λ k. subst PlainLun (sym (empty-lun k)) free-plain }
 
 -- one LUN put; past the end that changes nothing
 plain-set : (us : List Lun) (lun : ℕ) (u : Lun) → ((k : ℕ) → PlainLun (getD us k freeLun)) → PlainLun u

@@ -107,7 +107,7 @@ module _
   unfolding f t
   accepted-right y = of-read (accepted (Read caller lun sel num fmt buf) f (sym (ap (λ (o : Outcome). accepts (o .answer)) outcome-is) ∙ y))
 
-  never : Stranger cs k caller (fileOf (foundAt cs (next (Format id n) s) k) lun)
+  never : Stranger cs (next (Format id n) s) k caller (fileOf (foundAt cs (next (Format id n) s) k) lun)
       → (outcomeAt cs (next (Format id n) s) k .buffer ≡ buf) × (moved (outcomeAt cs (next (Format id n) s) k .answer) ≡ 0)
   unfolding f t given
   never S =
@@ -120,7 +120,7 @@ module _
       no : ByRight cs t k caller lun (fileOf f lun) → ⊥
       no (unprotected p) = S .is-protected p
       no (has-right p) = true≢false (sym p ∙ S .has-no-right)
-      no (was-offered j l o) = S .never-offered j l lun (o .mode) (o .end) (o .is-assign)
+      no (was-offered j l o) = S .never-offered lun j l o
 
 pub read-by-right : ReadByRight
 read-by-right s id n h cs b k caller lun sel num fmt buf is-read y = accepted-right s id n h cs b k caller lun sel num fmt buf is-read y

@@ -6,7 +6,7 @@ use mathlib.Core.Path.{_≡_, refl, ap, sym, subst, _∙_}
 use Prim.Native.Nat.{ℕ, zero, suc, _<_, _≤_}
 use native.Mathlib.Decide.{ℕ-discrete, decLt}
 use native.Mathlib.Omega.{arith}
-use lib.ListN.{length, getD, set, replicate, List·getD-eq-default}
+use lib.ListN.{length, getD, set, List·getD-eq-default}
 use borrow.Author.Tests.{eqb-true, eq-eqb, ne-eqb, not-true}
 use Rattle.numbers.specs.Numbers.{lunCount}
 use Rattle.lists.proofs.Tests.{both-true, is-false}
@@ -33,6 +33,7 @@ use Rattle.promises.specs.Contents.{slotHeld}
 use Rattle.promises.proofs.Passing.{Accepted, refused-or-accepted, next-refused, next-accepted, carriedTo, accepts-it}
 use Rattle.promises.proofs.Told.{assign-told, delete-told}
 use Rattle.promises.proofs.Held.{entryOf}
+use Rattle.promises.proofs.OneLun.{empty-lun}
 use Rattle.promises.proofs.NamedFile.{file-named}
 use Rattle.promises.proofs.Preserved.{other-files-kept}
 use Rattle.promises.proofs.Writing.{accepted-write}
@@ -93,16 +94,13 @@ kept-seat s img d j (p, e) h f =
       same-file = ap (λ (u : Lun). entryAt img (u .slot)) e ∙ f was;
     }
 
--- the LUNs of an empty desk are free; past the sixteenth there is none that is held
-free-at : (n j : ℕ) → getD (replicate n freeLun) j freeLun .held ≡ false
+-- a free LUN is not held; an empty desk has no other, and past the sixteenth there is none that is held
+free-lun : freeLun .held ≡ false
 unfolding freeLun
-free-at zero j = refl
-free-at (suc n) zero = refl
-free-at (suc n) (suc j) = free-at n j
+free-lun = refl
 
 pub empty-free : (j : ℕ) → lunAt emptyDesk j .held ≡ false
-unfolding lunAt emptyDesk
-empty-free j = free-at lunCount j
+empty-free j = ap (λ (u : Lun). u .held) (empty-lun j) ∙ free-lun
 
 held-low : (d : Desk) (j : ℕ) → length (d .luns) ≡ lunCount → lunAt d j .held ≡ true → j < lunCount
 unfolding lunAt freeLun
@@ -196,7 +194,7 @@ module _ (s : State) (g : Good s) (j : ℕ) where
   seat-carried (Close caller lun) a h =
       ⊎-elim
       (λ e. inl (kept-seat s (s .image) _ j (alike (s .desk) _ j e) h (λ x. refl)))
-      (λ t. absurd (true≢false (sym h ∙ ap (λ (u : Lun). u .held) (t .1) ∙ free-at 0 0)))
+      (λ t. absurd (true≢false (sym h ∙ ap (λ (u : Lun). u .held) (t .1) ∙ free-lun)))
       (lun-put (s .desk) lun j freeLun)
   seat-carried (Rewind caller lun) a h = inl (kept-seat s (s .image) _ j (alike-moved (s .desk) lun j Fresh) h (λ x. refl))
   seat-carried (Delete caller desc) a h =
