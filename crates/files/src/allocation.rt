@@ -10,8 +10,8 @@ use lists::parts::sector_of;
 use lists::parts::zero_run;
 use volume::directory::put_entry;
 use volume::locate::Layout;
-use volume::sat::lowest_run;
 use volume::sat::mark_in;
+use volume::search::lowest_run;
 
 // The sectors that a new file takes: its own, or one as the access block.
 fn taken(kind: usize, size: usize) -> usize

@@ -20,8 +20,8 @@ use ownership::blocks::seg_length;
 use ownership::blocks::seg_start;
 use ownership::blocks::segments;
 use records::stream::wide16;
-use volume::sat::next_free;
 use volume::sat::set_mark;
+use volume::search::next_free;
 
 /// Stores the n lowest free sectors below t at the front of `out`.
 pub fn lowest_free(sat: &[u8], t: usize, n: usize, out: &mut [u16])

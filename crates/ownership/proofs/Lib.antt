@@ -4,6 +4,7 @@ pub mod BlockFacts
 pub mod BlockTests
 pub mod BlockWriters
 pub mod ClaimMeaning
+pub mod ClaimedRuns
 pub mod ClaimsFollow
 pub mod Freeing
 pub mod OwnedRuns

@@ -4,9 +4,9 @@ ghost use mathlib.Core.Bool.{true};
 ghost use Prim.Native.Nat.{_+_, _≤_, _<_, _*_};
 ghost use lib.ListN.{length, replicate};
 ghost use Rattle.numbers.specs.Numbers.{mostSectors};
-ghost use Rattle.lists.specs.Lists.{range, flat, same};
+ghost use Rattle.lists.specs.Lists.{range, flat};
 ghost use Rattle.ownership.specs.Owners.{owned, allOwned, sound5};
-ghost use Rattle.ownership.specs.Code.Claims.{Claims, fresh, weighed, tableOf};
+ghost use Rattle.ownership.specs.Code.Claims.{Claims, fresh};
 ghost use Rattle.ownership.specs.Blocks.{sectorsOf, blockSound, placed, sound3};
 ghost use Rattle.volume.specs.Directory.{entries, entryAt};
 ghost use Rattle.volume.specs.Code.Located.{Located, LaidOut};
@@ -18,11 +18,8 @@ ghost use Rattle.lists.specs.Parts.{sector, putSector};
 use crate::blocks::seg_length;
 use crate::blocks::seg_start;
 use crate::blocks::segments;
-use lists::parts::clear;
 use lists::parts::copy_in;
 use lists::parts::sector_of;
-use lists::parts::wide;
-use numbers::MOST_SECTORS;
 use volume::directory::contiguous;
 use volume::directory::entry_of;
 use volume::directory::size;
@@ -30,30 +27,41 @@ use volume::directory::start;
 use volume::directory::unused;
 use volume::locate::Layout;
 use volume::sat::clear_mark;
-use volume::sat::free_count;
 use volume::sat::free_in;
 use volume::sat::free_run;
+use volume::sat::marked;
+use volume::sat::same_table;
+use volume::sat::set_mark;
+use volume::search::free_count;
 
-// Claims n sectors from s on; false where one of them is owned already.
+// Claims n sectors from s on, eight at once where they are a byte; false where one of them is owned already.
 fn claim_run(marks: &mut [u8], s: usize, n: usize) -> bool
-    requires { ⌜ (length (now marks) ≡ mostSectors) × (s + n ≤ mostSectors) ⌝ }
+    requires { ⌜ (length (now marks) ≡ 256) × (s + n ≤ mostSectors) ⌝ }
     ensures { λ r. ⌜ Claims (range s n) (now (marks .entry)) r (now (marks .exit)) ⌝ }
 {
     let end = s + n;
     let mut i = s;
     while i < end {
-        if marks[i] != 0 {
-            return false;
+        if (i % 8 == 0) & (i + 8 <= end) {
+            if marks[i / 8] != 0 {
+                return false;
+            }
+            marks[i / 8] = 255;
+            i += 8;
+        } else {
+            if marked(marks, i) {
+                return false;
+            }
+            set_mark(marks, i);
+            i += 1;
         }
-        marks[i] = 1;
-        i += 1;
     }
     true
 }
 
 // Claims the segments of an access block.
 fn claim_block(marks: &mut [u8], f: &[u8], t: usize) -> bool
-    requires { ⌜ (length (now marks) ≡ mostSectors) × (length (now f) ≡ 256) × (t ≤ mostSectors) × (blockSound t (now f) ≡ true) ⌝ }
+    requires { ⌜ (length (now marks) ≡ 256) × (length (now f) ≡ 256) × (t ≤ mostSectors) × (blockSound t (now f) ≡ true) ⌝ }
     ensures { λ r. ⌜ Claims (sectorsOf (now (f .entry))) (now (marks .entry)) r (now (marks .exit)) ⌝ }
 {
     let n = segments(f);
@@ -71,7 +79,7 @@ fn claim_block(marks: &mut [u8], f: &[u8], t: usize) -> bool
 
 // Claims what an entry owns.
 fn claim_entry(marks: &mut [u8], img: &[u8], t: usize, e: &[u8]) -> bool
-    requires { ⌜ (length (now marks) ≡ mostSectors) × (length (now img) ≡ 256 * t) × (t ≤ mostSectors) × (length (now e) ≡ 32)
+    requires { ⌜ (length (now marks) ≡ 256) × (length (now img) ≡ 256 * t) × (t ≤ mostSectors) × (length (now e) ≡ 32)
         × (placed (now img) (now e) ≡ true) ⌝ }
     ensures { λ r. ⌜ Claims (owned (now (img .entry)) (now (e .entry))) (now (marks .entry)) r (now (marks .exit)) ⌝ }
 {
@@ -91,7 +99,7 @@ fn claim_entry(marks: &mut [u8], img: &[u8], t: usize, e: &[u8]) -> bool
 
 // Claims what the entries of the directory own.
 fn claim_entries(marks: &mut [u8], img: &[u8], p: Layout) -> bool
-    requires { ⌜ (length (now marks) ≡ mostSectors) × Located (now img) p × (sound3 (now img) ≡ true) ⌝ }
+    requires { ⌜ (length (now marks) ≡ 256) × Located (now img) p × (sound3 (now img) ≡ true) ⌝ }
     ensures { λ r. ⌜ Claims (flat (owned (now (img .entry))) (entries (now (img .entry)))) (now (marks .entry)) r (now (marks .exit)) ⌝ }
 {
     let t = p.t;
@@ -108,7 +116,7 @@ fn claim_entries(marks: &mut [u8], img: &[u8], p: Layout) -> bool
 
 // Claims the system sectors.
 fn claim_system(marks: &mut [u8], p: Layout) -> bool
-    requires { ⌜ (length (now marks) ≡ mostSectors) × LaidOut p ⌝ }
+    requires { ⌜ (length (now marks) ≡ 256) × LaidOut p ⌝ }
     ensures { λ r. ⌜ Claims (systemOf p) (now (marks .entry)) r (now (marks .exit)) ⌝ }
 {
     if !claim_run(marks, 0, 1) {
@@ -123,61 +131,31 @@ fn claim_system(marks: &mut [u8], p: Layout) -> bool
     claim_run(marks, p.dir, p.dirs)
 }
 
-// Claims all that is owned, over marks that are set from t on.
+// Claims all that is owned, over marks of which only the first t are freed.
 fn claim_all(marks: &mut [u8], img: &[u8], p: Layout) -> bool
-    requires { ⌜ (length (now marks) ≡ mostSectors) × (now marks ≡ replicate mostSectors 1) × Located (now img) p
+    requires { ⌜ (length (now marks) ≡ 256) × (now marks ≡ replicate 256 255) × Located (now img) p
         × (sound3 (now img) ≡ true) ⌝ }
     ensures { λ r. ⌜ Claims (allOwned (now (img .entry))) (fresh (p .t)) r (now (marks .exit)) ⌝ }
 {
     let t = p.t;
-    clear(&mut marks[0..t]);
+    free_run(marks, 0, t);
     if !claim_system(marks, p) {
         return false;
     }
     claim_entries(marks, img, p)
 }
 
-// Eight marks from s on, as the byte of a table.
-fn byte_of(marks: &[u8], s: usize) -> usize
-    requires { ⌜ s + 8 ≤ length (now marks) ⌝ }
-    ensures { λ r. ⌜ r ≡ weighed (now (marks .entry)) s ⌝ }
-{
-    128 * wide(marks[s])
-        + 64 * wide(marks[s + 1])
-        + 32 * wide(marks[s + 2])
-        + 16 * wide(marks[s + 3])
-        + 8 * wide(marks[s + 4])
-        + 4 * wide(marks[s + 5])
-        + 2 * wide(marks[s + 6])
-        + wide(marks[s + 7])
-}
-
-// Does the table mark exactly what is marked?
-fn agrees(sat: &[u8], marks: &[u8]) -> bool
-    requires { ⌜ (length (now sat) ≡ 256) × (length (now marks) ≡ mostSectors) ⌝ }
-    ensures { λ r. ⌜ r ≡ same (now (sat .entry)) (tableOf (now (marks .entry))) ⌝ }
-{
-    let mut i = 0;
-    while i < 256 {
-        if wide(sat[i]) != byte_of(marks, 8 * i) {
-            return false;
-        }
-        i += 1;
-    }
-    true
-}
-
-/// Point 5 of soundness, in one pass over the owners.
+/// Point 5 of soundness, in one pass over the owners. The marks have the SAT's form, and are compared with it as a whole.
 pub fn owners_sound(img: &[u8], p: Layout) -> bool
     requires { ⌜ Located (now img) p × (sound3 (now img) ≡ true) ⌝ }
     ensures { λ r. ⌜ r ≡ sound5 (now (img .entry)) ⌝ }
 {
-    let mut marks = [1u8; MOST_SECTORS];
+    let mut marks = [255u8; 256];
     if !claim_all(&mut marks, img, p) {
         return false;
     }
     let sat = p.sat;
-    agrees(sector_of(img, sat), &marks)
+    same_table(sector_of(img, sat), &marks)
 }
 
 /// How many sectors are free?

@@ -3,7 +3,7 @@ use mathlib.Core.Path.{_≡_, refl, ap, sym, _∙_}
 use mathlib.Core.Bool.{Bool, true, false}
 use mathlib.Core.List.{List, map}
 use Prim.Native.Nat.{ℕ, zero, suc, _+_, _<_, _-_, _/_, _%_, _^_, _*_, _≤_}
-use native.Mathlib.Nat.{not-suc-le-zero, add-zero, zero-add, mod-lt}
+use native.Mathlib.Nat.{not-suc-le-zero, add-zero, zero-add, mod-lt, zero-div}
 use native.Mathlib.Omega.{arith}
 use native.Mathlib.Decide.{ℕ-discrete}
 use lib.Dec.{eqb}
@@ -24,6 +24,9 @@ all-from p i (suc n) e zero h = rw add-zero (and-left (p i) (all p (range (suc i
 all-from p i (suc n) e (suc k) h =
     let s : i + suc k ≡ suc i + k = omega arith in
     rw s (all-from p (suc i) n (and-right (p i) (all p (range (suc i) n)) e) k (omega arith))
+
+pub all-at : (p : ℕ → Bool) (i n : ℕ) → all p (range i n) ≡ true → (j : ℕ) → i ≤ j → j < i + n → p j ≡ true
+all-at p i n e j h g = let z : i + (j - i) ≡ j = omega arith in rw z at (all-from p i n e (j - i) (omega arith))
 
 pub all-range : (p : ℕ → Bool) (n : ℕ) → all p (range 0 n) ≡ true → (k : ℕ) → k < n → p k ≡ true
 all-range p n e k h = rw zero-add at (all-from p 0 n e k h)
@@ -167,18 +170,17 @@ bits-sum : (x : ℕ) → x < 256 → x ≡ bits-of x
 bits-sum x h = eqb-true x (bits-of x) (all-range (λ q. eqb q (bits-of q)) 256 bits-tested x h)
 
 -- byte i, from the eight tests
-byte-is : (t : ℕ) (own b : List ℕ) (i : ℕ) → getD b i 0 < 256 → i < 256 → ((s : ℕ) → s < mostSectors → marked b s ≡ owns t own s)
-    → getD b i 0 ≡ packed (owns t own) (8 * i)
+byte-is : (f : ℕ → Bool) (b : List ℕ) (i : ℕ) → getD b i 0 < 256 → i < 256 → ((s : ℕ) → s < mostSectors → marked b s ≡ f s) → getD b i 0 ≡ packed f (8 * i)
 unfolding packed bits-of _and_ _or_
-byte-is t own b i hb hi hm =
-    let f0 : getD b i 0 / 128 % 2 ≡ one (owns t own (8 * i)) = rw add-zero at (bit-is b i 0 (omega arith) ∙ ap one (hm (8 * i + 0) (omega arith))) in
-    let f1 : getD b i 0 / 64 % 2 ≡ one (owns t own (8 * i + 1)) = bit-is b i 1 (omega arith) ∙ ap one (hm (8 * i + 1) (omega arith)) in
-    let f2 : getD b i 0 / 32 % 2 ≡ one (owns t own (8 * i + 2)) = bit-is b i 2 (omega arith) ∙ ap one (hm (8 * i + 2) (omega arith)) in
-    let f3 : getD b i 0 / 16 % 2 ≡ one (owns t own (8 * i + 3)) = bit-is b i 3 (omega arith) ∙ ap one (hm (8 * i + 3) (omega arith)) in
-    let f4 : getD b i 0 / 8 % 2 ≡ one (owns t own (8 * i + 4)) = bit-is b i 4 (omega arith) ∙ ap one (hm (8 * i + 4) (omega arith)) in
-    let f5 : getD b i 0 / 4 % 2 ≡ one (owns t own (8 * i + 5)) = bit-is b i 5 (omega arith) ∙ ap one (hm (8 * i + 5) (omega arith)) in
-    let f6 : getD b i 0 / 2 % 2 ≡ one (owns t own (8 * i + 6)) = bit-is b i 6 (omega arith) ∙ ap one (hm (8 * i + 6) (omega arith)) in
-    let f7 : getD b i 0 / 1 % 2 ≡ one (owns t own (8 * i + 7)) = bit-is b i 7 (omega arith) ∙ ap one (hm (8 * i + 7) (omega arith)) in
+byte-is f b i hb hi hm =
+    let f0 : getD b i 0 / 128 % 2 ≡ one (f (8 * i)) = rw add-zero at (bit-is b i 0 (omega arith) ∙ ap one (hm (8 * i + 0) (omega arith))) in
+    let f1 : getD b i 0 / 64 % 2 ≡ one (f (8 * i + 1)) = bit-is b i 1 (omega arith) ∙ ap one (hm (8 * i + 1) (omega arith)) in
+    let f2 : getD b i 0 / 32 % 2 ≡ one (f (8 * i + 2)) = bit-is b i 2 (omega arith) ∙ ap one (hm (8 * i + 2) (omega arith)) in
+    let f3 : getD b i 0 / 16 % 2 ≡ one (f (8 * i + 3)) = bit-is b i 3 (omega arith) ∙ ap one (hm (8 * i + 3) (omega arith)) in
+    let f4 : getD b i 0 / 8 % 2 ≡ one (f (8 * i + 4)) = bit-is b i 4 (omega arith) ∙ ap one (hm (8 * i + 4) (omega arith)) in
+    let f5 : getD b i 0 / 4 % 2 ≡ one (f (8 * i + 5)) = bit-is b i 5 (omega arith) ∙ ap one (hm (8 * i + 5) (omega arith)) in
+    let f6 : getD b i 0 / 2 % 2 ≡ one (f (8 * i + 6)) = bit-is b i 6 (omega arith) ∙ ap one (hm (8 * i + 6) (omega arith)) in
+    let f7 : getD b i 0 / 1 % 2 ≡ one (f (8 * i + 7)) = bit-is b i 7 (omega arith) ∙ ap one (hm (8 * i + 7) (omega arith)) in
     bits-sum (getD b i 0) hb ∙ rw (f0, f1, f2, f3, f4, f5, f6, f7)
 
 -- a SAT of 256 bytes that marks exactly these sectors is `satOf`
@@ -187,4 +189,31 @@ unfolding satOf _and_ _or_
 sat-is t own b hl hb hm =
     ext-getD 0 b (satOf t own) (hl ∙ sym (length-satOf t own)) (λ i h.
     let hi : i < 256 = omega arith in
-    byte-is t own b i (hb i) hi hm ∙ rw (getD-map-range (λ j. packed (owns t own) (8 * j)) 0 256 i hi, zero-add))
+    byte-is (owns t own) b i (hb i) hi hm ∙ rw (getD-map-range (λ j. packed (owns t own) (8 * j)) 0 256 i hi, zero-add))
+
+-- a table is what its marks are
+pub marks-are : (b c : List ℕ) → length b ≡ 256 → length c ≡ 256 → ((i : ℕ) → getD b i 0 < 256) → ((i : ℕ) → getD c i 0 < 256)
+    → ((s : ℕ) → s < mostSectors → marked b s ≡ marked c s) → b ≡ c
+marks-are b c lb lc hb hc e =
+    ext-getD 0 b c (lb ∙ sym lc) (λ i h.
+    let hi : i < 256 = omega arith in
+    byte-is (marked c) b i (hb i) hi e ∙ sym (byte-is (marked c) c i (hc i) hi (λ s l. refl)))
+
+-- a byte is 0 where none of its sectors is marked
+pub zero-byte : (b : List ℕ) (s : ℕ) → getD b (s / 8) 0 ≡ 0 → marked b s ≡ false
+unfolding marked
+zero-byte b s e = rw (e, zero-div (2 ^ (7 - s % 8)))
+
+pub byte-zero : (b : List ℕ) (i : ℕ) → getD b i 0 < 256 → i < 256 → ((s : ℕ) → 8 * i ≤ s → s < 8 * i + 8 → marked b s ≡ false) → getD b i 0 ≡ 0
+unfolding packed
+byte-zero b i hb hi f =
+    byte-is (marked b) b i hb hi (λ s l. refl) ∙ rw (
+      f (8 * i) (omega arith) (omega arith),
+      f (8 * i + 1) (omega arith) (omega arith),
+      f (8 * i + 2) (omega arith) (omega arith),
+      f (8 * i + 3) (omega arith) (omega arith),
+      f (8 * i + 4) (omega arith) (omega arith),
+      f (8 * i + 5) (omega arith) (omega arith),
+      f (8 * i + 6) (omega arith) (omega arith),
+      f (8 * i + 7) (omega arith) (omega arith),
+    )

@@ -1,17 +1,25 @@
--- Runs of sectors: marked and freed; where a free one is, and where none can start.
-use mathlib.Core.Path.{_≡_, _∙_, ap}
-use mathlib.Core.List.{List}
-use mathlib.Core.Bool.{Bool, true, false}
-use Prim.Native.Nat.{ℕ, _+_, _-_, _<_, _≤_}
+-- Runs of sectors: marked and freed, a bit or a whole byte at a time.
+use mathlib.Core.Path.{_≡_, refl, _∙_, ap}
+use mathlib.Core.List.{List, _∷_, _++_}
+use mathlib.Core.Bool.{true, false}
+use mathlib.Core.Logic.{inl, inr}
+use Prim.Native.Nat.{ℕ, zero, suc, _+_, _-_, _*_, _/_, _%_, _^_, _<_, _≤_}
+use native.Mathlib.Nat.{zero-add, add-zero}
 use native.Mathlib.Omega.{arith}
-use lib.Dec.{leb}
-use borrow.Author.Tests.{le-leb, lt-leb}
-use Rattle.lists.specs.Lists.{range, _and_, first, all}
-use Rattle.lists.proofs.Ranges.{range-cons, range-end, all-each, all-not, first-skip}
-use Rattle.lists.proofs.FirstFound.{first-yes, first-end}
-use Rattle.lists.proofs.Tests.{both-true}
-use Rattle.lists.proofs.Bools.{and-false}
-use Rattle.volume.specs.Sat.{withBit, withBits, isFree, runAt}
+use native.Mathlib.Decide.{ℕ-discrete, decLt}
+use lib.Dec.{eqb}
+use lib.ListN.{length, set, length-set}
+use lib.Seq.{getD-set-same, getD-set-other}
+use borrow.Author.Tests.{eqb-true}
+use Rattle.numbers.specs.Numbers.{mostSectors}
+use Rattle.lists.specs.Lists.{range, _and_, all, among}
+use Rattle.lists.proofs.AreBytes.{Bytes}
+use Rattle.lists.proofs.Keeps.{range-out}
+use Rattle.lists.proofs.RangeParts.{among-range}
+use Rattle.lists.proofs.Ranges.{range-cons, range-end, range-below}
+use Rattle.volume.specs.Sat.{marked, withBit, withBits}
+use Rattle.volume.proofs.Bits.{all-range, marks-are}
+use Rattle.volume.proofs.BitsSet.{sat-numbers, marked-withBits, bytes-withBits, length-withBits, withBits-append}
 
 -- a turn of a loop that marks or frees a run
 pub withBits-more : (v : ℕ) (b : List ℕ) (i e : ℕ) → i < e → withBits v b (range i (e - i)) ≡ withBits v (withBit v b i) (range (i + 1) (e - (i + 1)))
@@ -22,21 +30,61 @@ pub withBits-end : (v : ℕ) (b : List ℕ) (i e : ℕ) → e ≤ i → withBits
 unfolding withBits
 withBits-end v b i e h = rw (range-end i e h)
 
-module _ (b : List ℕ) (t n : ℕ) where
-  -- n free sectors from s on
-  pub run-found : (s : ℕ) → s < t → s + n ≤ t → ((k : ℕ) → s ≤ k → k < s + n → isFree b k ≡ true) → first (runAt b t n) s (t - s) ≡ s
-  unfolding runAt
-  run-found s l h f = first-yes (runAt b t n) s t l (both-true (leb (s + n) t) (all (isFree b) (range s n)) (le-leb (s + n) t h) (all-each (isFree b) s n f))
+-- a run in two
+pub range-split : (i m n : ℕ) → range i (m + n) ≡ range i m ++ range (i + m) n
+unfolding range
+range-split i zero n = rw (zero-add n, add-zero i)
+range-split i (suc m) n =
+    let e : suc m + n ≡ suc (m + n) = omega arith in
+    let f : suc i + m ≡ i + suc m = omega arith in
+    ap (range i) e ∙ ap (λ (l : List ℕ). i ∷ l) (range-split (suc i) m n ∙ ap (λ (k : ℕ). range (suc i) m ++ range k n) f)
 
-  -- no run that would go over a marked sector
-  pub run-over : (s i : ℕ) → s ≤ i → i < s + n → i < t → isFree b i ≡ false → first (runAt b t n) s (t - s) ≡ first (runAt b t n) (i + 1) (t - (i + 1))
-  unfolding runAt
-  run-over s i h g l e =
-      first-skip (runAt b t n) s (i + 1) t (omega arith) (omega arith) (λ k p q.
-      ap (λ (x : Bool). leb (k + n) t and x) (all-not (isFree b) k n i (omega arith) (omega arith) e) ∙ and-false (leb (k + n) t))
+-- eight bits of one byte, all made v
+all-bits : all (λ v. all (λ k. eqb (255 * v / 2 ^ (7 - k) % 2) v) (range 0 8)) (range 0 2) ≡ true
+unfolding all range _and_
+all-bits = refl
 
-  -- no run that would end past the end
-  pub run-past : (s : ℕ) → s ≤ t → t < s + n → first (runAt b t n) s (t - s) ≡ t
-  unfolding runAt _and_
-  run-past s h g =
-      first-skip (runAt b t n) s t t h (omega arith) (λ k p q. rw (lt-leb (k + n) t (omega arith))) ∙ first-end (runAt b t n) t t (omega arith)
+bit-of-all : (v k : ℕ) → v < 2 → k < 8 → 255 * v / 2 ^ (7 - k) % 2 ≡ v
+bit-of-all v k h g =
+    eqb-true _ _ (all-range (λ j. eqb (255 * v / 2 ^ (7 - j) % 2) v) 8
+    (all-range (λ x. all (λ j. eqb (255 * x / 2 ^ (7 - j) % 2) x) (range 0 8)) 2 all-bits v h) k g)
+
+module _ (v : ℕ) (b : List ℕ) (hv : v < 2) (hb : Bytes b) (long : length b ≡ 256) where
+  module _ (q : ℕ) (hq : q < 256) where
+    in-byte : sat-numbers (range (8 * q) 8) ≡ true
+    in-byte = range-below mostSectors (8 * q) 8 (omega arith)
+
+    made-whole : (u : ℕ) → u < mostSectors → marked (withBits v b (range (8 * q) 8)) u ≡ marked (set b q (255 * v)) u
+    unfolding marked
+    made-whole u l = marked-withBits v b (range (8 * q) 8) u hv hb long in-byte ∙ elim (ℕ-discrete (u / 8) q) [
+      | yes e ↦
+          rw (range-out u (8 * q) 8 (omega arith) (omega arith), e, getD-set-same b q (255 * v) 0 (omega arith), bit-of-all v (u % 8) hv (omega arith))
+      | no n ↦ rw (apart (decLt u (8 * q)) n, getD-set-other b q (u / 8) (255 * v) 0 n)
+    ]
+      where
+        apart : Dec (u < 8 * q) → (u / 8 ≡ q → ⊥) → among u (range (8 * q) 8) ≡ false
+        apart (yes p) n = among-range u (8 * q) 8 (inl p)
+        apart (no p) n = among-range u (8 * q) 8 (inr (far (decLt u (8 * q + 8))))
+          where
+            far : Dec (u < 8 * q + 8) → 8 * q + 8 ≤ u
+            far (yes g) = absurd (n (omega arith))
+            far (no g) = omega arith
+
+    pub bytes-whole : Bytes (set b q (255 * v))
+    bytes-whole i = elim (ℕ-discrete i q) [
+      | yes e ↦ rw (e, getD-set-same b q (255 * v) 0 (omega arith)) (omega arith)
+      | no n ↦ rw (getD-set-other b q i (255 * v) 0 n) (hb i)
+    ]
+
+    pub withBits-byte : withBits v b (range (8 * q) 8) ≡ set b q (255 * v)
+    withBits-byte =
+        marks-are _ _ (length-withBits v b (range (8 * q) 8) ∙ long) (length-set b q (255 * v) ∙ long) (bytes-withBits v b (range (8 * q) 8) hv hb long in-byte)
+        bytes-whole made-whole
+
+  -- a turn that makes a whole byte
+  pub withBits-eight : (i e : ℕ) → i % 8 ≡ 0 → i + 8 ≤ e → e ≤ mostSectors → withBits v b (range i (e - i)) ≡ withBits v (set b (i / 8) (255 * v)) (range (i + 8) (e - (i + 8)))
+  withBits-eight i e a h g =
+      let n : e - i ≡ 8 + (e - (i + 8)) = omega arith in
+      let m : i ≡ 8 * (i / 8) = omega arith in
+      ap (λ (k : ℕ). withBits v b (range i k)) n ∙ ap (withBits v b) (range-split i 8 (e - (i + 8))) ∙ withBits-append v b (range i 8) (range (i + 8) (e - (i + 8)))
+      ∙ ap (λ (c : List ℕ). withBits v c (range (i + 8) (e - (i + 8)))) (ap (λ (k : ℕ). withBits v b (range k 8)) m ∙ withBits-byte (i / 8) (omega arith))

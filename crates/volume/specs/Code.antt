@@ -1,2 +1,3 @@
 pub mod Found
 pub mod Located
+pub mod Searches

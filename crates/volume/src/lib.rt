@@ -4,4 +4,6 @@ pub mod directory;
 pub mod format;
 pub mod locate;
 pub mod names;
+pub mod quads;
 pub mod sat;
+pub mod search;

@@ -1,12 +1,13 @@
-// The sector allocation table: bits, runs, free sectors.
+// The sector allocation table: its bits, and runs of them marked and freed.
 ghost use mathlib.Core.Path.{_≡_};
 ghost use Prim.Native.Nat.{_-_, _/_, _%_, _^_, _<_, _*_, _+_, _≤_};
 ghost use lib.Dec.{eqb};
 ghost use lib.ListN.{length};
 ghost use Rattle.numbers.specs.Numbers.{mostSectors};
 ghost use Rattle.lists.specs.Parts.{sector, putSector};
-ghost use Rattle.volume.specs.Sat.{marked, withBit, withBits, isFree, runAt};
-ghost use Rattle.lists.specs.Lists.{range, first, kept};
+ghost use Rattle.volume.specs.Sat.{marked, withBit, withBits};
+ghost use Rattle.lists.specs.Lists.{range, same};
+use crate::quads::quad_at;
 
 // Bit k of a byte, counted from the top.
 fn bit(b: u8, k: usize) -> bool
@@ -20,14 +21,14 @@ fn without_bit(b: u8, k: usize) -> u8
     requires { ⌜ k < 8 ⌝ }
     ensures { λ r. ⌜ r ≡ b - b / 2 ^ (7 - k) % 2 * 2 ^ (7 - k) ⌝ }
 {
-    b - (b >> (7 - k)) % 2 * (1 << (7 - k))
+    b & !(1 << (7 - k))
 }
 
 fn with_bit(b: u8, k: usize) -> u8
     requires { ⌜ k < 8 ⌝ }
     ensures { λ r. ⌜ r ≡ b - b / 2 ^ (7 - k) % 2 * 2 ^ (7 - k) + 2 ^ (7 - k) ⌝ }
 {
-    without_bit(b, k) + (1 << (7 - k))
+    b | (1 << (7 - k))
 }
 
 /// Is sector s marked?
@@ -58,7 +59,7 @@ pub fn clear_mark(sat: &mut [u8], s: usize)
     sat[at] = without_bit(b, s % 8);
 }
 
-/// Marks n sectors from s on.
+/// Marks n sectors from s on, eight at once where they are a byte.
 pub fn mark_run(sat: &mut [u8], s: usize, n: usize)
     requires { ⌜ (length (now sat) ≡ 256) × (s + n ≤ mostSectors) ⌝ }
     ensures { λ _. ⌜ now (sat .exit) ≡ withBits 1 (now (sat .entry)) (range s n) ⌝ }
@@ -66,12 +67,17 @@ pub fn mark_run(sat: &mut [u8], s: usize, n: usize)
     let end = s + n;
     let mut i = s;
     while i < end {
-        set_mark(sat, i);
-        i += 1;
+        if (i % 8 == 0) & (i + 8 <= end) {
+            sat[i / 8] = 255;
+            i += 8;
+        } else {
+            set_mark(sat, i);
+            i += 1;
+        }
     }
 }
 
-/// Frees n sectors from s on.
+/// Frees n sectors from s on, eight at once where they are a byte.
 pub fn free_run(sat: &mut [u8], s: usize, n: usize)
     requires { ⌜ (length (now sat) ≡ 256) × (s + n ≤ mostSectors) ⌝ }
     ensures { λ _. ⌜ now (sat .exit) ≡ withBits 0 (now (sat .entry)) (range s n) ⌝ }
@@ -79,62 +85,14 @@ pub fn free_run(sat: &mut [u8], s: usize, n: usize)
     let end = s + n;
     let mut i = s;
     while i < end {
-        clear_mark(sat, i);
-        i += 1;
-    }
-}
-
-/// How many of the first t sectors are free?
-pub fn free_count(sat: &[u8], t: usize) -> usize
-    requires { ⌜ (length (now sat) ≡ 256) × (t ≤ mostSectors) ⌝ }
-    ensures { λ r. ⌜ r ≡ length (kept (isFree (now (sat .entry))) (range 0 t)) ⌝ }
-{
-    let mut n: usize = 0;
-    let mut i = 0;
-    while i < t {
-        let next = i + 1;
-        let more = n + 1;
-        if !marked(sat, i) {
-            n = more;
+        if (i % 8 == 0) & (i + 8 <= end) {
+            sat[i / 8] = 0;
+            i += 8;
+        } else {
+            clear_mark(sat, i);
+            i += 1;
         }
-        i = next;
     }
-    n
-}
-
-/// The lowest free sector from `from` on and below t, or t.
-pub fn next_free(sat: &[u8], t: usize, from: usize) -> usize
-    requires { ⌜ (length (now sat) ≡ 256) × (t ≤ mostSectors) ⌝ }
-    ensures { λ r. ⌜ r ≡ first (isFree (now (sat .entry))) from (t - from) ⌝ }
-{
-    let mut i = from;
-    while i < t {
-        if !marked(sat, i) {
-            return i;
-        }
-        i += 1;
-    }
-    i
-}
-
-/// The lowest start of n free sectors in a row among the first t, or t, in one pass: each sector from `start` up to i is free.
-pub fn lowest_run(sat: &[u8], t: usize, n: usize) -> usize
-    requires { ⌜ (length (now sat) ≡ 256) × (t ≤ mostSectors) × (1 ≤ n) × (n ≤ mostSectors) ⌝ }
-    ensures { λ r. ⌜ r ≡ first (runAt (now (sat .entry)) t n) 0 t ⌝ }
-{
-    let mut start = 0;
-    let mut i = 0;
-    while start + n <= t {
-        if i == start + n {
-            return start;
-        }
-        let next = i + 1;
-        if marked(sat, i) {
-            start = next;
-        }
-        i = next;
-    }
-    t
 }
 
 /// Marks n sectors from s on in the table at sector `sat` of an image.
@@ -155,4 +113,19 @@ pub fn free_in(img: &mut [u8], sat: usize, s: usize, n: usize)
     let at = 256 * sat;
     let end = at + 256;
     free_run(&mut img[at..end], s, n);
+}
+
+/// Are two tables the same? Eight bytes are compared at once.
+pub fn same_table(a: &[u8], b: &[u8]) -> bool
+    requires { ⌜ (length (now a) ≡ 256) × (length (now b) ≡ 256) ⌝ }
+    ensures { λ r. ⌜ r ≡ same (now (a .entry)) (now (b .entry)) ⌝ }
+{
+    let mut q = 0;
+    while q < 32 {
+        if quad_at(a, q) != quad_at(b, q) {
+            return false;
+        }
+        q += 1;
+    }
+    true
 }

@@ -1,37 +1,22 @@
--- How the code finds a sector that is owned twice: over marks, one a sector, each owner marks what it owns and may find none marked.
+-- How the code finds a sector that is owned twice: over a table of the SAT's form, each owner marks what it owns and may find none marked.
 use mathlib.Core.Bool.{Bool, true}
-use mathlib.Core.List.{List, [], _∷_, _++_, map}
+use mathlib.Core.List.{List, [], _∷_}
 use mathlib.Core.Path.{_≡_}
-use Prim.Native.Nat.{ℕ, _-_, _+_, _*_}
-use lib.ListN.{getD, set, replicate}
-use lib.Dec.{eqb}
-use Rattle.numbers.specs.Numbers.{mostSectors}
+use Prim.Native.Nat.{ℕ}
+use lib.ListN.{replicate}
 use Rattle.lists.specs.Lists.{_and_, range}
-use Rattle.lists.specs.Parts.{blanks, byte}
+use Rattle.volume.specs.Sat.{isFree, withBit, withBits}
 
--- no sector of the list is marked before its turn, where each turn marks one; and the marks after the list
+-- no sector of the list is marked before its turn, where each turn marks one
 unfoldable pub claim : List ℕ → List ℕ → Bool
 claim m [] = true
-claim m (x ∷ xs) = eqb (getD m x 0) 0 and claim (set m x 1) xs
+claim m (x ∷ xs) = isFree m x and claim (withBit 1 m x) xs
 
-unfoldable pub claimed : List ℕ → List ℕ → List ℕ
-claimed m [] = m
-claimed m (x ∷ xs) = claimed (set m x 1) xs
-
--- an answer r and marks m′ after the sectors xs were to be claimed over the marks m
+-- an answer r and a table m′ after the sectors xs were to be claimed over the table m
 pub record Claims (xs m : List ℕ) (r : Bool) (m′ : List ℕ) : Type 0 where
   pub answer : r ≡ claim m xs
-  pub marks : r ≡ true → m′ ≡ claimed m xs
+  pub marks : r ≡ true → m′ ≡ withBits 1 m xs
 
--- marks to start from: 0 below t, and 1 from t on; RULES, The sector allocation table: the bits of numbers from T on are 1
+-- the table to start from, free below t; RULES, The sector allocation table: the bits of numbers from T on are 1
 unfoldable pub fresh : ℕ → List ℕ
-fresh t = blanks t ++ replicate (mostSectors - t) 1
-
--- eight marks from s on as the byte of a table, and the table of all marks
-unfoldable pub weighed : List ℕ → ℕ → ℕ
-weighed m s =
-    128 * byte m s + 64 * byte m (s + 1) + 32 * byte m (s + 2) + 16 * byte m (s + 3) + 8 * byte m (s + 4) + 4 * byte m (s + 5)
-    + 2 * byte m (s + 6) + byte m (s + 7)
-
-unfoldable pub tableOf : List ℕ → List ℕ
-tableOf m = map (λ i. weighed m (8 * i)) (range 0 256)
+fresh t = withBits 0 (replicate 256 255) (range 0 t)

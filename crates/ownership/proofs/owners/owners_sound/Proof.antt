@@ -24,11 +24,11 @@ returns c =
 sector-of-requires : tie.Need-sector-of-requires
 sector-of-requires c κs = search needs
 
-slice-aggregate-agrees : tie.Need-slice-aggregate-agrees
-slice-aggregate-agrees c = search needs
+slice-aggregate-same-table : tie.Need-slice-aggregate-same-table
+slice-aggregate-same-table c = search needs
 
-agrees-requires : tie.Need-agrees-requires
-agrees-requires c κs =
+same-table-requires : tie.Need-same-table-requires
+same-table-requires c κs =
     let before = c .before .before .before .before .before .before .before in
     let s = before in
     (ap length (c .before .sector-of .ensures) ∙ length-sector _ _ (omega (arith, s .pre .0 .long, s .pre .0 .sat-in)), search needs)
@@ -40,7 +40,7 @@ returns-2 c =
     let s = before in
     let k = claim-all in
     owned-once _ _ (s .pre .0) (s .pre .1) _ _ (rw (not-false (k .result) (c .before .before .before .if1 .left)) at (k .ensures))
-    (rw (c .before .before .sector-of .ensures) at (c .agrees .ensures))
+    (rw (c .before .before .sector-of .ensures) at (c .same-table .ensures))
 
 pub owners-sound-spec : {M : Type 1} → statement M
 owners-sound-spec =
@@ -50,6 +50,6 @@ owners-sound-spec =
     claim-all-requires
     returns
     sector-of-requires
-    slice-aggregate-agrees
-    agrees-requires
+    slice-aggregate-same-table
+    same-table-requires
     returns-2)

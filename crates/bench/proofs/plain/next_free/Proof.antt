@@ -5,9 +5,9 @@ use native.Mathlib.Omega.{arith}
 use borrow.Author.Needs.{needs}
 use Rattle.lists.specs.Lists.{first}
 use Rattle.lists.proofs.FirstFound.{first-yes, first-no, first-end}
 use Rattle.volume.specs.Sat.{isFree}
-use Rattle.volume.proofs.sat.next_free.Statement.{statement}
-use Rattle.volume.proofs.sat.next_free.Tie as tie
+use Rattle.bench.proofs.plain.next_free.Statement.{statement}
+use Rattle.bench.proofs.plain.next_free.Tie as tie
 
 abbrev Inv-loop : tie.InvT-loop
 Inv-loop sat t from i₀ i = first (isFree sat) from (t - from) ≡ first (isFree sat) i (t - i)

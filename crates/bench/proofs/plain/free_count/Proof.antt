@@ -8,9 +8,9 @@ use denote.Ref.{now}
 use borrow.Author.Needs.{needs}
 use Rattle.lists.specs.Lists.{range, kept}
 use Rattle.lists.proofs.Ranges.{kept-yes, kept-no, kept-end}
 use Rattle.volume.specs.Sat.{isFree}
-use Rattle.volume.proofs.sat.free_count.Statement.{statement}
-use Rattle.volume.proofs.sat.free_count.Tie as tie
+use Rattle.bench.proofs.plain.free_count.Statement.{statement}
+use Rattle.bench.proofs.plain.free_count.Tie as tie
 
 abbrev Inv-loop : tie.InvT-loop
 Inv-loop sat t n₀ i₀ n i = (i ≤ t) × (n ≤ i) × (length (kept (isFree sat) (range 0 t)) ≡ n + length (kept (isFree sat) (range i (t - i))))

@@ -1,0 +1,20 @@
+use mathlib.Core.Path.{sym, _∙_}
+use borrow.Author.Needs.{needs}
+use Rattle.bench.proofs.Answers.{fits, asked-of, asked-not}
+use Rattle.bench.proofs.timed.bench_plain_free_count.Statement.{statement}
+use Rattle.bench.proofs.timed.bench_plain_free_count.Tie as tie
+
+is-table-requires : tie.Need-is-table-requires
+is-table-requires c κs = search needs
+
+returns : tie.Need-returns
+returns c = sym (asked-not _ _ (c .before .is-table .ensures) _ (c .if1 .taken))
+
+free-count-requires : tie.Need-free-count-requires
+free-count-requires c κs = fits _ _ (c .before .is-table .ensures) (c .if1 .left)
+
+returns-2 : tie.Need-returns-2
+returns-2 c = c .free-count .ensures ∙ sym (asked-of _ _ (c .before .before .is-table .ensures) _ (c .before .if1 .left))
+
+pub bench-plain-free-count-spec : {M : Type 1} → statement M
+bench-plain-free-count-spec = tie.close (tie.spec is-table-requires returns free-count-requires returns-2)
