@@ -14,7 +14,7 @@ use Rattle.lists.specs.Parts.{over}
 use Rattle.lists.proofs.Tests.{and-left, and-right}
 use Rattle.lists.proofs.Bools.{and-false}
 use Rattle.volume.specs.Sat.{isFree, runAt}
-use Rattle.volume.proofs.RunHunt.{lowest-none}
+use Rattle.volume.proofs.Searches.RunHunt.{lowest-none}
 use Rattle.bench.specs.Asked.{isTable, asked, taken, Took}
 
 none : (b : List ℕ) (t : ℕ) → first (runAt b t 0) 0 t ≡ 0

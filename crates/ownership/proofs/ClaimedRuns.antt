@@ -12,7 +12,7 @@ use Rattle.lists.proofs.AreBytes.{Bytes}
 use Rattle.lists.proofs.Ranges.{range-cons, range-end, all-each}
 use Rattle.lists.proofs.Tests.{is-false}
 use Rattle.volume.specs.Sat.{marked, isFree, withBit, withBits}
-use Rattle.volume.proofs.Bits.{all-at, zero-byte, byte-zero}
+use Rattle.volume.proofs.Bits.{range-each, zero-byte, byte-zero}
 use Rattle.volume.proofs.SatRuns.{range-split, withBits-byte}
 use Rattle.ownership.specs.Code.Claims.{claim, Claims}
 use Rattle.ownership.proofs.ClaimMeaning.{claim-range}
@@ -52,7 +52,7 @@ module _ (m : List ℕ) (i : ℕ) (b : Bytes m) (l : length m ≡ 256) (whole : 
   unfolding isFree
   eight-taken m′ z = record {
     answer = sym (claim-range m i 8 b l fits ∙ is-false _ (λ e.
-        z (byte-zero m (i / 8) (b (i / 8)) (omega arith) (λ s p q. not-true (marked m s) (all-at (isFree m) i 8 e s (omega arith) (omega arith))))));
+        z (byte-zero m (i / 8) (b (i / 8)) (omega arith) (λ s p q. not-true (marked m s) (range-each (isFree m) i 8 e s (omega arith) (omega arith))))));
     marks = λ e. absurd (false≢true e);
   }
 

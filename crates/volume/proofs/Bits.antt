@@ -25,8 +25,8 @@ all-from p i (suc n) e (suc k) h =
     let s : i + suc k ≡ suc i + k = omega arith in
     rw s (all-from p (suc i) n (and-right (p i) (all p (range (suc i) n)) e) k (omega arith))
 
-pub all-at : (p : ℕ → Bool) (i n : ℕ) → all p (range i n) ≡ true → (j : ℕ) → i ≤ j → j < i + n → p j ≡ true
-all-at p i n e j h g = let z : i + (j - i) ≡ j = omega arith in rw z at (all-from p i n e (j - i) (omega arith))
+pub range-each : (p : ℕ → Bool) (i n : ℕ) → all p (range i n) ≡ true → (j : ℕ) → i ≤ j → j < i + n → p j ≡ true
+range-each p i n e j h g = let z : i + (j - i) ≡ j = omega arith in rw z at (all-from p i n e (j - i) (omega arith))
 
 pub all-range : (p : ℕ → Bool) (n : ℕ) → all p (range 0 n) ≡ true → (k : ℕ) → k < n → p k ≡ true
 all-range p n e k h = rw zero-add at (all-from p 0 n e k h)

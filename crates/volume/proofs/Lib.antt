@@ -1,9 +1,6 @@
-pub mod BitRows
 pub mod BitShifts
 pub mod Bits
 pub mod BitsSet
-pub mod Counted
-pub mod Digits
 pub mod EntryBytes
 pub mod EntryClashes
 pub mod EntryFields
@@ -13,15 +10,10 @@ pub mod LayoutKept
 pub mod Located
 pub mod NameBytes
 pub mod NamesDiffer
-pub mod NumberBits
 pub mod RunFound
-pub mod RunHunt
-pub mod RunQuads
 pub mod SatAccounts
 pub mod SatChanged
 pub mod SatRuns
 pub mod SearchAnswers
-pub mod SearchStops
+pub mod Searches
 pub mod Slots
-pub mod TableQuads
-pub mod TablesSame

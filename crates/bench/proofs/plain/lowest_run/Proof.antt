@@ -5,7 +5,7 @@ use native.Mathlib.Omega.{arith}
 use borrow.Author.Needs.{needs}
 use Rattle.lists.proofs.Ranges.{range-more}
 use Rattle.volume.specs.Sat.{isFree}
-use Rattle.volume.proofs.RunHunt.{None, none-over, lowest-at, lowest-none}
+use Rattle.volume.proofs.Searches.RunHunt.{None, none-over, lowest-at, lowest-none}
 use Rattle.bench.proofs.plain.lowest_run.Statement.{statement}
 use Rattle.bench.proofs.plain.lowest_run.Tie as tie
 

@@ -1,7 +1,7 @@
 use Prim.Native.Nat.{_-_, _*_, _^_, _%_}
 use native.Mathlib.Omega.{arith}
 use borrow.Author.Needs.{needs}
-use Rattle.volume.proofs.NumberBits.{clear-none, clear-from, counts-fit}
+use Rattle.volume.proofs.Searches.NumberBits.{clear-none, clear-from, counts-fit}
 use Rattle.volume.proofs.quads.first_clear.Statement.{statement}
 use Rattle.volume.proofs.quads.first_clear.Tie as tie
 

@@ -5,7 +5,7 @@ use native.Mathlib.Omega.{arith}
 use lib.Bits.{and-le-l}
 use borrow.Author.Needs.{needs}
 use Rattle.volume.specs.Code.Searches.{bitAt, rowAt}
-use Rattle.volume.proofs.BitRows.{row-one, row-long, row-join, rows-none, rows-first, no-row}
+use Rattle.volume.proofs.Searches.BitRows.{row-one, row-long, row-join, rows-none, rows-first, no-row}
 use Rattle.volume.proofs.quads.first_set.Reads as first-set-reads
 use Rattle.volume.proofs.quads.lesser.Reads as lesser-reads
 use Rattle.volume.proofs.quads.first_row.Statement.{statement}

@@ -1,5 +1,5 @@
 use native.Mathlib.Omega.{arith}
-use Rattle.volume.proofs.NumberBits.{leading-first, counts-fit}
+use Rattle.volume.proofs.Searches.NumberBits.{leading-first, counts-fit}
 use Rattle.volume.proofs.quads.first_set.Statement.{statement}
 use Rattle.volume.proofs.quads.first_set.Tie as tie
 

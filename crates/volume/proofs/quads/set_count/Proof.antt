@@ -5,7 +5,7 @@ use lib.Count.{ones-le}
 use lib.Pow.{shr-le}
 use borrow.Author.Needs.{needs}
 use Rattle.volume.specs.Code.Searches.{bitAt}
-use Rattle.volume.proofs.Counted.{ones-first, count-le}
+use Rattle.volume.proofs.Searches.Counted.{ones-first, count-le}
 use Rattle.volume.proofs.quads.set_count.Statement.{statement}
 use Rattle.volume.proofs.quads.set_count.Tie as tie
 

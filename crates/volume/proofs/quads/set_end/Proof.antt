@@ -1,5 +1,5 @@
 use native.Mathlib.Omega.{arith}
-use Rattle.volume.proofs.NumberBits.{trailing-clear, trailing-set, counts-fit}
+use Rattle.volume.proofs.Searches.NumberBits.{trailing-clear, trailing-set, counts-fit}
 use Rattle.volume.proofs.quads.set_end.Statement.{statement}
 use Rattle.volume.proofs.quads.set_end.Tie as tie
 

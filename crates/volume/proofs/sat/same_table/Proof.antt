@@ -3,7 +3,7 @@ use Prim.Native.Nat.{ℕ, _≤_, _<_, _*_, _-_}
 use native.Mathlib.Omega.{arith}
 use borrow.Author.Needs.{needs}
 use Rattle.lists.specs.Parts.{byte}
-use Rattle.volume.proofs.TablesSame.{same-quads, tables-same, tables-differ}
+use Rattle.volume.proofs.Searches.TablesSame.{same-quads, tables-same, tables-differ}
 use Rattle.volume.proofs.quads.quad_at.Reads as quad-at-reads
 use Rattle.volume.proofs.sat.same_table.Statement.{statement}
 use Rattle.volume.proofs.sat.same_table.Tie as tie

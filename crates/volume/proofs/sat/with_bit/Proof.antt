@@ -1,5 +1,5 @@
-use Rattle.volume.proofs.BitShifts.{bit-set}
 use borrow.Author.Needs.{needs}
+use Rattle.volume.proofs.BitShifts.{bit-set}
 use Rattle.volume.proofs.sat.with_bit.Statement.{statement}
 use Rattle.volume.proofs.sat.with_bit.Tie as tie
 

@@ -1,5 +1,5 @@
-use Rattle.volume.proofs.BitShifts.{bit-cleared}
 use borrow.Author.Needs.{needs}
+use Rattle.volume.proofs.BitShifts.{bit-cleared}
 use Rattle.volume.proofs.sat.without_bit.Statement.{statement}
 use Rattle.volume.proofs.sat.without_bit.Tie as tie
 

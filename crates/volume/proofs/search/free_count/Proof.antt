@@ -5,7 +5,7 @@ use native.Mathlib.Omega.{arith}
 use denote.Ref.{now}
 use borrow.Author.Needs.{needs}
 use Rattle.volume.specs.Sat.{isFree}
-use Rattle.volume.proofs.Counted.{count, count-le, more-counted, all-counted}
+use Rattle.volume.proofs.Searches.Counted.{count, count-le, more-counted, all-counted}
 use Rattle.volume.proofs.search.free_count.Statement.{statement}
 use Rattle.volume.proofs.search.free_count.Tie as tie
 

@@ -3,8 +3,8 @@ use native.Mathlib.Omega.{arith}
 use borrow.Author.Needs.{needs}
 use Rattle.lists.proofs.Ranges.{first-to}
 use Rattle.volume.specs.Code.Searches.{bitAt}
-use Rattle.volume.proofs.RunHunt.{lowest-none}
-use Rattle.volume.proofs.RunQuads.{Hunt, begun, found-head, found-row, found-late, goes-after, goes-on}
+use Rattle.volume.proofs.Searches.RunHunt.{lowest-none}
+use Rattle.volume.proofs.Searches.RunQuads.{Hunt, begun, found-head, found-row, found-late, goes-after, goes-on}
 use Rattle.volume.proofs.search.lowest_run.Statement.{statement}
 use Rattle.volume.proofs.search.lowest_run.Tie as tie
 

@@ -5,8 +5,8 @@ use native.Mathlib.Omega.{arith}
 use borrow.Author.Needs.{needs}
 use Rattle.lists.proofs.FirstFound.{first-end}
 use Rattle.volume.specs.Sat.{isFree}
-use Rattle.volume.proofs.SearchStops.{found-none}
-use Rattle.volume.proofs.TableQuads.{stops, goes-on}
+use Rattle.volume.proofs.Searches.SearchStops.{found-none}
+use Rattle.volume.proofs.Searches.TableQuads.{stops, goes-on}
 use Rattle.volume.proofs.search.next_free.Statement.{statement}
 use Rattle.volume.proofs.search.next_free.Tie as tie
 

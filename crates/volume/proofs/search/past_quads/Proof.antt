@@ -3,7 +3,7 @@ use Prim.Native.Nat.{ℕ, _%_, _-_, _^_}
 use native.Mathlib.Omega.{arith}
 use borrow.Author.Needs.{needs}
 use Rattle.volume.specs.Code.Searches.{Passed}
-use Rattle.volume.proofs.TableQuads.{passed-more, passed-none}
+use Rattle.volume.proofs.Searches.TableQuads.{passed-more, passed-none}
 use Rattle.volume.proofs.search.past_quads.Statement.{statement}
 use Rattle.volume.proofs.search.past_quads.Tie as tie
 

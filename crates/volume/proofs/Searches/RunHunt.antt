@@ -13,8 +13,8 @@ use Rattle.lists.proofs.Ranges.{all-each, all-not}
 use Rattle.lists.proofs.Tests.{and-right, both-true}
 use Rattle.lists.proofs.Bools.{and-false}
 use Rattle.volume.specs.Sat.{isFree, runAt}
-use Rattle.volume.proofs.Bits.{all-at}
-use Rattle.volume.proofs.SearchStops.{found-at, found-none}
+use Rattle.volume.proofs.Bits.{range-each}
+use Rattle.volume.proofs.Searches.SearchStops.{found-at, found-none}
 
 module _ (b : List ℕ) (t n : ℕ) where
   run-yes : (s : ℕ) → s + n ≤ t → ((k : ℕ) → s ≤ k → k < s + n → isFree b k ≡ true) → runAt b t n s ≡ true
@@ -31,7 +31,7 @@ module _ (b : List ℕ) (t n : ℕ) where
 
   pub run-each : (s : ℕ) → runAt b t n s ≡ true → (k : ℕ) → s ≤ k → k < s + n → isFree b k ≡ true
   unfolding runAt
-  run-each s e k h g = all-at (isFree b) s n (and-right (leb (s + n) t) (all (isFree b) (range s n)) e) k h g
+  run-each s e k h g = range-each (isFree b) s n (and-right (leb (s + n) t) (all (isFree b) (range s n)) e) k h g
 
   -- no run starts below s; nor below i + 1, where a run from s on would go over the mark of i
   abbrev pub None : ℕ → Type 0

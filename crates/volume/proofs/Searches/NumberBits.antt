@@ -14,8 +14,8 @@ use lib.Pow.{pow-pos, pow-mono, lt-of-le-ones}
 use Rattle.lists.specs.Lists.{_and_, first}
 use Rattle.lists.proofs.IndexFound.{first-holds, first-before}
 use Rattle.volume.specs.Code.Searches.{bitAt, clearAt}
-use Rattle.volume.proofs.SearchStops.{found-at, found-none, first-same}
-use Rattle.volume.proofs.Digits.{digit, digit-lt, digit-none, digit-top, digit-mod, digit-up, digit-under, digit-down, digit-high, digit-low, digit-not, digit-and}
+use Rattle.volume.proofs.Searches.SearchStops.{found-at, found-none, first-same}
+use Rattle.volume.proofs.Searches.Digits.{digit, digit-lt, digit-none, digit-top, digit-mod, digit-up, digit-under, digit-down, digit-high, digit-low, digit-not, digit-and}
 
 -- bit k is the digit that has as many below it as bits follow k
 bit-is : (w x k m : ℕ) → w - (k + 1) ≡ m → bitAt w x k ≡ eqb (digit x m) 1

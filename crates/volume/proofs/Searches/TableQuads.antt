@@ -16,8 +16,8 @@ use Rattle.lists.proofs.Ranges.{first-from}
 use Rattle.lists.proofs.IndexFound.{first-holds, first-before}
 use Rattle.volume.specs.Sat.{marked, isFree}
 use Rattle.volume.specs.Code.Searches.{bitAt, clearAt, quad, Passed}
-use Rattle.volume.proofs.NumberBits.{high-bit, low-bit, not-bit, zero-bit}
-use Rattle.volume.proofs.SearchStops.{found-at, found-none}
+use Rattle.volume.proofs.Searches.NumberBits.{high-bit, low-bit, not-bit, zero-bit}
+use Rattle.volume.proofs.Searches.SearchStops.{found-at, found-none}
 
 pub byte-bit : (b : List ℕ) (s : ℕ) → bitAt 8 (byte b (s / 8)) (s % 8) ≡ marked b s
 unfolding bitAt marked

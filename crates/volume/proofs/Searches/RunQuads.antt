@@ -13,10 +13,10 @@ use Rattle.lists.proofs.Ranges.{first-to}
 use Rattle.lists.proofs.Tests.{is-false}
 use Rattle.volume.specs.Sat.{isFree, runAt}
 use Rattle.volume.specs.Code.Searches.{bitAt, quad, rowAt, EndsAt}
-use Rattle.volume.proofs.SearchStops.{found-none}
-use Rattle.volume.proofs.TableQuads.{quad-bit, quad-gap}
-use Rattle.volume.proofs.BitRows.{row-yes, row-fits, row-bits}
-use Rattle.volume.proofs.RunHunt.{None, run-not, run-each, none-over, lowest-at, lowest-none}
+use Rattle.volume.proofs.Searches.SearchStops.{found-none}
+use Rattle.volume.proofs.Searches.TableQuads.{quad-bit, quad-gap}
+use Rattle.volume.proofs.Searches.BitRows.{row-yes, row-fits, row-bits}
+use Rattle.volume.proofs.Searches.RunHunt.{None, run-not, run-each, none-over, lowest-at, lowest-none}
 
 -- before the quad from sector i on: every sector from `start` up to i is free, and no run starts below `start`
 pub record Hunt (b : List ℕ) (t n start i : ℕ) : Type 0 where

@@ -15,8 +15,8 @@ use Rattle.lists.specs.Parts.{byte}
 use Rattle.lists.proofs.AreBytes.{Bytes}
 use Rattle.volume.specs.Sat.{isFree}
 use Rattle.volume.specs.Code.Searches.{bitAt, clearAt}
-use Rattle.volume.proofs.TableQuads.{byte-clear}
-use Rattle.volume.proofs.NumberBits.{first-bits, not-bit}
+use Rattle.volume.proofs.Searches.TableQuads.{byte-clear}
+use Rattle.volume.proofs.Searches.NumberBits.{first-bits, not-bit}
 
 abbrev pub count : (ℕ → Bool) → ℕ → ℕ → ℕ
 count p a n = length (kept p (range a n))

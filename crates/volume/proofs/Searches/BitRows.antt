@@ -12,9 +12,9 @@ use Rattle.lists.proofs.Tests.{and-left, and-right, both-true, is-false}
 use Rattle.lists.proofs.Bools.{agree}
 use Rattle.lists.proofs.Ranges.{all-each}
 use Rattle.volume.specs.Code.Searches.{bitAt, rowAt}
-use Rattle.volume.proofs.Bits.{all-at}
-use Rattle.volume.proofs.NumberBits.{shifted-bit, shifted-out, and-bit, zero-bit}
-use Rattle.volume.proofs.SearchStops.{found-none, first-same}
+use Rattle.volume.proofs.Bits.{range-each}
+use Rattle.volume.proofs.Searches.NumberBits.{shifted-bit, shifted-out, and-bit, zero-bit}
+use Rattle.volume.proofs.Searches.SearchStops.{found-none, first-same}
 
 module _ (x : ℕ) where
   pub row-yes : (n k : ℕ) → k + n ≤ 64 → ((j : ℕ) → k ≤ j → j < k + n → bitAt 64 x j ≡ true) → rowAt x n k ≡ true
@@ -27,7 +27,7 @@ module _ (x : ℕ) where
 
   pub row-bits : (n k : ℕ) → rowAt x n k ≡ true → (j : ℕ) → k ≤ j → j < k + n → bitAt 64 x j ≡ true
   unfolding rowAt
-  row-bits n k e j h g = all-at (bitAt 64 x) k n (and-right (leb (k + n) 64) (all (bitAt 64 x) (range k n)) e) j h g
+  row-bits n k e j h g = range-each (bitAt 64 x) k n (and-right (leb (k + n) 64) (all (bitAt 64 x) (range k n)) e) j h g
 
   pub row-one : (k : ℕ) → k < 64 → bitAt 64 x k ≡ rowAt x 1 k
   row-one k h = agree _ _ (λ e. row-yes 1 k (omega arith) (λ j p q. let z : k ≡ j = omega arith in rw z at e)) (λ e. row-bits 1 k e k (omega arith) (omega arith))
