@@ -74,9 +74,9 @@ pub fn first_row(x: usize, n: usize) -> usize
 }
 
 /// How many of the first r bits of a byte are set.
-pub fn set_count(b: u8, r: usize) -> usize
+pub fn set_count(b: u8, r: usize) -> u32
     requires { ⌜ (1 ≤ r) × (r ≤ 8) ⌝ }
     ensures { λ n. ⌜ (n ≡ length (kept (bitAt 8 b) (range 0 r))) × (n ≤ r) ⌝ }
 {
-    u8::count_ones(b >> (8 - r)) as usize
+    u8::count_ones(b >> (8 - r))
 }

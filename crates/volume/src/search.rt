@@ -83,21 +83,21 @@ pub fn lowest_run(sat: &[u8], t: usize, n: usize) -> usize
     t
 }
 
-/// How many of the first t sectors are free?
+/// How many of the first t sectors are free? Counted in 32 bits, so that the compiler counts more bytes at once.
 pub fn free_count(sat: &[u8], t: usize) -> usize
     requires { ⌜ (length (now sat) ≡ 256) × (t ≤ mostSectors) ⌝ }
     ensures { λ r. ⌜ r ≡ length (kept (isFree (now (sat .entry))) (range 0 t)) ⌝ }
 {
     let whole = t / 8;
     let rest = t % 8;
-    let mut n: usize = 0;
+    let mut n: u32 = 0;
     let mut q = 0;
     while q < whole {
         n += set_count(!sat[q], 8);
         q += 1;
     }
     if rest == 0 {
-        return n;
+        return n as usize;
     }
-    n + set_count(!sat[q], rest)
+    (n + set_count(!sat[q], rest)) as usize
 }

@@ -40,6 +40,9 @@ loop-again c =
     let e = c .set-count .ensures in
     (omega arith, omega (arith, l .inv .1, e .1), more-counted _ (λ i. given i .fits) _ _ _ _ (omega arith) (e .0) (l .inv .2))
 
+cast-result : tie.Need-cast-result Inv-loop μ-loop
+cast-result c = let l = c .before .before .loop in record { fits = omega (arith, l .inv .0, l .inv .1) }
+
 returns : tie.Need-returns Inv-loop μ-loop
 returns c =
     let l = c .before .before .loop in
@@ -54,6 +57,9 @@ set-count-requires-2 c κs = search needs
 
 add-result : tie.Need-add-result Inv-loop μ-loop
 add-result c = let l = c .before .before .before .before .loop in record { fits = omega (arith, l .inv .0, l .inv .1, c .set-count2 .ensures .1) }
+
+cast-result-2 : tie.Need-cast-result-2 Inv-loop μ-loop
+cast-result-2 c = let l = c .before .before .before .before .loop in record { fits = omega (arith, l .inv .0, l .inv .1, c .set-count2 .ensures .1) }
 
 returns-2 : tie.Need-returns-2 Inv-loop μ-loop
 returns-2 c =
@@ -76,8 +82,10 @@ free-count-spec =
     add-q
     loop-less
     loop-again
+    cast-result
     returns
     shared-slice-read-set-count-2
     set-count-requires-2
     add-result
+    cast-result-2
     returns-2)
