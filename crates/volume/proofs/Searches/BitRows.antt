@@ -33,7 +33,7 @@ module _ (x : ℕ) where
   row-one k h = agree _ _ (λ e. row-yes 1 k (omega arith) (λ j p q. let z : k ≡ j = omega arith in rw z at e)) (λ e. row-bits 1 k e k (omega arith) (omega arith))
 
   -- a longer row has each shorter one
-  pub row-less : (m n k : ℕ) → m ≤ n → rowAt x m k ≡ false → rowAt x n k ≡ false
+  row-less : (m n k : ℕ) → m ≤ n → rowAt x m k ≡ false → rowAt x n k ≡ false
   row-less m n k h e = is-false _ (λ q. false≢true (sym e ∙ row-yes m k (omega (arith, row-fits n k q)) (λ j a b. row-bits n k q j a (omega arith))))
 
   pub row-long : (n k : ℕ) → 64 < n → rowAt x n k ≡ false

@@ -43,7 +43,7 @@ count-le p a (suc n) = omega (arith, count-cons p a n, count-le p (suc a) n, wei
     weight-le true = omega arith
     weight-le false = omega arith
 
-pub count-split : (p : ℕ → Bool) (a m n : ℕ) → count p a (m + n) ≡ count p a m + count p (a + m) n
+count-split : (p : ℕ → Bool) (a m n : ℕ) → count p a (m + n) ≡ count p a m + count p (a + m) n
 unfolding kept range
 count-split p a zero n = rw (zero-add n, add-zero a) (sym (zero-add (count p a n)))
 count-split p a (suc m) n =
@@ -51,7 +51,7 @@ count-split p a (suc m) n =
     let f : suc a + m ≡ a + suc m = omega arith in
     ap (count p a) e ∙ count-cons p a (m + n) ∙ omega (arith, count-cons p a m, rw f at (count-split p (suc a) m n))
 
-pub count-same : (p q : ℕ → Bool) (a c n : ℕ) → ((k : ℕ) → k < n → p (a + k) ≡ q (c + k)) → count p a n ≡ count q c n
+count-same : (p q : ℕ → Bool) (a c n : ℕ) → ((k : ℕ) → k < n → p (a + k) ≡ q (c + k)) → count p a n ≡ count q c n
 unfolding kept range
 count-same p q a c zero e = refl
 count-same p q a c (suc n) e =

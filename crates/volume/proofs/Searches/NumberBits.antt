@@ -82,7 +82,7 @@ trailing-clear w x k h g = clear-bit w x k (w - (k + 1)) refl (trailing-digit w 
 pub trailing-set : (w x k : ℕ) → k + 1 + trailingZeros w x ≡ w → bitAt w x k ≡ true
 trailing-set w x k e = set-bit w x k (trailingZeros w x) (omega arith) (trailing-top w x (omega arith))
 
--- the complement, and the first clear bit by it
+-- the complement
 flip : (d : ℕ) → d < 2 → eqb (1 - d) 1 ≡ not (eqb d 1)
 flip zero h = refl
 flip (suc zero) h = refl
@@ -104,10 +104,11 @@ pub shifted-out : (w x s k : ℕ) → k < w → w ≤ k + s → bitAt w (x * 2 ^
 shifted-out w x s k h g =
     clear-bit w (x * 2 ^ s % 2 ^ w) k (w - (k + 1)) refl (digit-mod (x * 2 ^ s) w (w - (k + 1)) (omega arith) ∙ digit-under x s (w - (k + 1)) (omega arith))
 
--- the first set bit from k on: where the bits before it are shifted out and something is left, the count of its leading zeros
+-- no bit of 0 is set
 pub zero-bit : (w x k : ℕ) → x ≡ 0 → bitAt w x k ≡ false
 zero-bit w x k e = clear-bit w x k (w - (k + 1)) refl (digit-none x (w - (k + 1)) (rw e (pow-pos (w - (k + 1)))))
 
+-- the first set bit from k on: where the bits before it are shifted out and something is left, the count of its leading zeros
 module _ (w x k : ℕ) (h : k < w) where
   moved : (s : ℕ) → k ≤ s → s < w → bitAt w x s ≡ bitAt w (x * 2 ^ k % 2 ^ w) (s - k)
   moved s l g =

@@ -19,7 +19,7 @@ use Rattle.volume.specs.Code.Searches.{bitAt, clearAt, quad, Passed}
 use Rattle.volume.proofs.Searches.NumberBits.{high-bit, low-bit, not-bit, zero-bit}
 use Rattle.volume.proofs.Searches.SearchStops.{found-at, found-none}
 
-pub byte-bit : (b : List ℕ) (s : ℕ) → bitAt 8 (byte b (s / 8)) (s % 8) ≡ marked b s
+byte-bit : (b : List ℕ) (s : ℕ) → bitAt 8 (byte b (s / 8)) (s % 8) ≡ marked b s
 unfolding bitAt marked
 byte-bit b s = let e : 8 - (s % 8 + 1) ≡ 7 - s % 8 = omega arith in ap (λ (n : ℕ). eqb (byte b (s / 8) / 2 ^ n % 2) 1) e
 
@@ -69,7 +69,7 @@ module _ (b : List ℕ) (h : Bytes b) where
   unfolding quad
   eight-bytes q = rw (mul-comm 4294967296 (long b (8 * q))) (joined 4 4 (8 * q) (long b (8 * q)) (long b (8 * q + 4)) (four-bytes (8 * q)) (four-bytes (8 * q + 4)))
 
-  pub quad-lt : (q : ℕ) → quad b q < 2 ^ 64
+  quad-lt : (q : ℕ) → quad b q < 2 ^ 64
   quad-lt q = eight-bytes q .fits
 
   pub quad-bit : (q k : ℕ) → k < 64 → bitAt 64 (quad b q) k ≡ marked b (64 * q + k)

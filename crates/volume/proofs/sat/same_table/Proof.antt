@@ -2,14 +2,14 @@ use mathlib.Core.Path.{_≡_, _∙_, sym}
 use Prim.Native.Nat.{ℕ, _≤_, _<_, _*_, _-_}
 use native.Mathlib.Omega.{arith}
 use borrow.Author.Needs.{needs}
-use Rattle.lists.specs.Parts.{byte}
+use Rattle.volume.specs.Sat.{marked}
 use Rattle.volume.proofs.Searches.TablesSame.{same-quads, tables-same, tables-differ}
 use Rattle.volume.proofs.quads.quad_at.Reads as quad-at-reads
 use Rattle.volume.proofs.sat.same_table.Statement.{statement}
 use Rattle.volume.proofs.sat.same_table.Tie as tie
 
 abbrev Inv-loop : tie.InvT-loop
-Inv-loop a b q₀ q = (q ≤ 32) × ((i : ℕ) → i < 8 * q → byte a i ≡ byte b i)
+Inv-loop a b q₀ q = (q ≤ 32) × ((s : ℕ) → s < 64 * q → marked a s ≡ marked b s)
 
 abbrev μ-loop : tie.MeasureT-loop
 μ-loop a b q₀ q = 32 - q
@@ -48,7 +48,9 @@ returns-2 : tie.Need-returns-2 Inv-loop μ-loop
 returns-2 c =
     let l = c .before .loop in
     let s = c .before .before .before .before in
-    sym (tables-same _ _ (s .pre .0) (s .pre .1) (λ i h. l .inv .1 i (omega arith)))
+    let a = c .before .before .before .shared-slice-known .given in
+    let b = c .before .before .shared-slice-known2 .given in
+    sym (tables-same _ _ (λ i. a i .fits) (λ i. b i .fits) (s .pre .0) (s .pre .1) (λ u h. l .inv .1 u (omega arith)))
 
 pub same-table-spec : {M : Type 1} → statement M
 same-table-spec =
