@@ -89,6 +89,12 @@ void want_fill(int which, size_t at, size_t len, int value)
     memset(area[which].want + at, value, len);
 }
 
+void want_word(size_t at, unsigned value)
+{
+    area[IMAGE].want[at] = (uint8_t)(value / 256);
+    area[IMAGE].want[at + 1] = (uint8_t)value;
+}
+
 /* What is put before a call is what has to stay. */
 static void settle(int which)
 {
@@ -127,6 +133,11 @@ void back_as(int k, size_t len)
     memcpy(area[DESK].want, kept_desk[k], TWYNARVEL_DESK_BYTES);
     settle(IMAGE);
     settle(DESK);
+}
+
+void want_back(int k)
+{
+    memcpy(area[IMAGE].want, kept_image[k], kept_len[k]);
 }
 
 void rule(const char *text)
@@ -203,6 +214,11 @@ void check(uint32_t verdict)
     got = twynarvel_check(LENT(IMAGE));
     seal(IMAGE, TO_READ_AND_WRITE);
     compare("check", verdict, got);
+}
+
+void bring_up(uint32_t status)
+{
+    compare("bring-up", status, twynarvel_bring_up(LENT(IMAGE)));
 }
 
 void allocate(uint32_t status, uint32_t caller, uint32_t kind, uint32_t size, uint32_t record, uint8_t read_code)
@@ -297,8 +313,8 @@ void house(size_t len, size_t shared)
     memset(area[IMAGE].want + 0x100, 0xFF, 256);
     put(IMAGE, 0x100, "FF C1");                                                     /* SAT: 0 to 9 and 15 are owned */
     put(IMAGE, 0x200, "01 00" FILE_X "0000 0000 0003 0003 0000");
-    put(IMAGE, 0x220, "01 01" FILE_Y "0000 0000 0006 0000 0000");
-    put(IMAGE, 0x240, "01 01" FILE_Z "0000 0004 0008 0000 0000");
+    put(IMAGE, 0x220, "01 01" FILE_Y "0000 0000 0006 00000005");
+    put(IMAGE, 0x240, "01 01" FILE_Z "0000 0004 0008 00000002");
     memset(area[IMAGE].want + 0x300, 0x33, 256);
     memset(area[IMAGE].want + 0x400, 0x44, 256);
     memset(area[IMAGE].want + 0x500, 0x55, 256);

@@ -34,9 +34,11 @@ void put(int which, size_t at, const char *hex);   /* bytes, as hexadecimal digi
 void poke(int which, size_t at, unsigned value);   /* one byte into an area */
 void want(int which, size_t at, const char *hex);  /* bytes that the next call has to write */
 void want_fill(int which, size_t at, size_t len, int value);
+void want_word(size_t at, unsigned value);         /* a word of the image that it has to write, the higher byte first */
 void mark(int k);                                  /* remembers image and desk, for k of 0 to 2 */
 void back(int k);                                  /* puts them back */
 void back_as(int k, size_t len);                   /* puts them back, the image cut or with zeros after it */
+void want_back(int k);                             /* the next call has to make the image what it was */
 
 /* The rule that the next checks are of, and two numbers that tell them apart. Printed with a difference. */
 void rule(const char *text);
@@ -49,6 +51,7 @@ void of(unsigned a, unsigned b);
 void iocb(uint32_t status, uint32_t length, uint32_t caller);
 void format(uint32_t status, uint32_t dirs);
 void check(uint32_t verdict);
+void bring_up(uint32_t status);
 void allocate(uint32_t status, uint32_t caller, uint32_t kind, uint32_t size, uint32_t record, uint8_t read_code);
 void assign(uint32_t status, uint32_t caller, uint32_t lun, uint32_t mode, uint32_t at_end, uint8_t offered);
 void release(uint32_t status, uint32_t caller, uint32_t lun);
@@ -77,6 +80,11 @@ void name(const char *hex);
  */
 void house(size_t len, size_t shared);
 
+/* Whether that volume is sound with this value in a byte of Y's entry, of Y's access block, or of the trailer. */
+int entry_byte(unsigned byte, unsigned v);
+int block_byte(unsigned byte, unsigned v);
+int trailer_byte(unsigned byte, unsigned v);
+
 /* Sections, each in a file by topic. */
 void block_lengths(void);
 void desk_lengths(void);
@@ -103,6 +111,13 @@ void offered_codes(void);
 void kept_codes(void);
 void reads_by_code(void);
 void private_file(void);
+void fresh_volumes(void);
+void old_volume(void);
+void counts_left(void);
+void old_bytes(void);
+void old_lengths(void);
+void long_counts(void);
+void counted_appends(void);
 void order_of_format(void);
 void order_of_allocate(void);
 void order_of_assign(void);

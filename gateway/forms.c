@@ -189,6 +189,7 @@ void null_pointers(void)
     erase(0x64, 5);
     lend_null(IMAGE); /* no bytes are no volume */
     check(0);
+    bring_up(0x6F);
     format(0x60, 1);
     rewind_of(1);
     iocb(0x6F, 0, 5);

@@ -418,6 +418,7 @@ void order_of_write(void)
     iocb(0x63, 0, 5); /* 22 + 2 + 233 + 1 = 258 bytes: one sector more */
     transfer(TWYNARVEL_WRITE, TWYNARVEL_RANDOM | TWYNARVEL_IMAGE, 0, 5, 232);
     want(IMAGE, 0x604, "00000100"); /* 256 bytes: the tail is filled, and no sector is needed */
+    want(IMAGE, 0x23C, "00000006");
     want(IMAGE, 0x716, "00E8");
     want_fill(IMAGE, 0x718, 232, 0xEE);
     want(DESK, 8, "00000005");
@@ -455,26 +456,21 @@ void order_of_update(void)
     iocb(0x00, 3, 5);
 }
 
-static void word(size_t at, unsigned value)
-{
-    area[IMAGE].want[at] = (uint8_t)(value / 256);
-    area[IMAGE].want[at + 1] = (uint8_t)value;
-}
-
-/* Record k of LUN `lun` takes sector s, in segment g of its access block, which then has `len` sectors. */
+/* Record k of LUN `lun`, whose file has the slot of that number, takes sector s, in segment g of its access block, then `len` sectors long. */
 static void append(unsigned lun, unsigned k, unsigned s, unsigned g, unsigned len)
 {
     size_t block = 256u * (3 + lun);
     of(lun, k);
     transfer(TWYNARVEL_WRITE, TWYNARVEL_NEXT | TWYNARVEL_IMAGE, lun, 0, 254);
     area[IMAGE].want[256 + s / 8] |= (uint8_t)(128 >> s % 8);
-    word(block, g + 1);
-    word(block + 2, k + 1);
-    word(block + 4, (k + 1) / 256);
-    word(block + 6, (k + 1) % 256 * 256);
-    word(block + 8 + 4 * g, s + 1 - len);
-    word(block + 10 + 4 * g, len);
-    word(256 * s, 254);
+    want_word(block, g + 1);
+    want_word(block + 2, k + 1);
+    want_word(block + 4, (k + 1) / 256);
+    want_word(block + 6, (k + 1) % 256 * 256);
+    want_word(block + 8 + 4 * g, s + 1 - len);
+    want_word(block + 10 + 4 * g, len);
+    want_word(0x21E + 32 * lun, k + 1); /* the record count */
+    want_word(256 * s, 254);
     memcpy(area[IMAGE].want + 256 * s + 2, area[TASK].at, 254);
     area[DESK].want[12 * lun + 5] = 1;
     area[DESK].want[12 * lun + 11] = (uint8_t)k;
@@ -492,8 +488,8 @@ void order_of_segments(void)
     want_fill(IMAGE, 0x101, 15, 0);
     put(IMAGE, 0x100, "F8"); /* system 0 to 2, access blocks 3 and 4 */
     put(IMAGE, 0x110, "1F"); /* 131 and on */
-    put(IMAGE, 0x200, "01 01" FILE_X "0000 0000 0003 0000 0000");
-    put(IMAGE, 0x220, "01 01" FILE_Y "0000 0000 0004 0000 0000");
+    put(IMAGE, 0x200, "01 01" FILE_X "0000 0000 0003 00000000");
+    put(IMAGE, 0x220, "01 01" FILE_Y "0000 0000 0004 00000000");
     put(IMAGE, 131 * 256, "0084 0082 0081 0001");
     lend(DESK, 192, 0);
     put(DESK, 0, "01 04 0005 00 00 0000 00000000");

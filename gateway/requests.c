@@ -251,11 +251,13 @@ void sent_parts(void)
     put(TASK, 0, "5158");
     request(0, TWYNARVEL_WRITE, TWYNARVEL_NEXT, 0, 0, 1, 3);
     want(IMAGE, 0x604, "0000001C");
+    want(IMAGE, 0x23C, "00000006");
     want(IMAGE, 0x716, "0003 58595A 00");
     want(DESK, 8, "00000005");
     iocb(0x00, 3, 5);
     request(0, TWYNARVEL_WRITE, TWYNARVEL_NEXT, 0, 0, 0x80000004, 0x80000004);
     want(IMAGE, 0x604, "00000020");
+    want(IMAGE, 0x23C, "00000007");
     want(IMAGE, 0x71C, "0001 65 00");
     want(DESK, 8, "00000006");
     iocb(0x00, 1, 5);

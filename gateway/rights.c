@@ -142,7 +142,7 @@ static void make(uint32_t owner, uint32_t caller, uint32_t kind, unsigned its_co
     if (status == 0x00) {
         want(IMAGE, 0x260, contiguous ? "01 00" : "01 01");
         memcpy(area[IMAGE].want + 0x262, area[NAME].at, 20);
-        want(IMAGE, 0x276, contiguous ? "0000 0000 000A 0002 0000" : "0000 0004 000A 0000 0000");
+        want(IMAGE, 0x276, contiguous ? "0000 0000 000A 0002 0000" : "0000 0004 000A 00000000");
         area[IMAGE].want[0x277] = (uint8_t)its_code;
         want(IMAGE, 0x101, contiguous ? "F1" : "E1");
     }
@@ -342,7 +342,7 @@ void private_file(void)
     static uint8_t old_desk[TWYNARVEL_DESK_BYTES];
     rule("private: the owner makes it and writes");
     house(4, 0);
-    want(IMAGE, 0x260, "01 01" FILE_NEW "00C8 0000 000A 0000 0000");
+    want(IMAGE, 0x260, "01 01" FILE_NEW "00C8 0000 000A 00000000");
     want(IMAGE, 0x101, "E1");
     allocate(0x00, 5, TWYNARVEL_SEQUENTIAL, 0, 0, 0xC8);
     want(DESK, 60, "01 04 0005 03 00 0000 00000000");
@@ -350,6 +350,7 @@ void private_file(void)
     put(TASK, 0, "41424344");
     transfer(TWYNARVEL_WRITE, TWYNARVEL_NEXT | TWYNARVEL_IMAGE, 5, 0, 4);
     want(IMAGE, 0xA00, "0001 0001 00000006 000B 0001");
+    want(IMAGE, 0x27C, "00000001");
     want(IMAGE, 0xB00, "0004 41424344");
     want(IMAGE, 0x101, "F1");
     want(DESK, 60, "01 04 0005 03 01 0000 00000000");
@@ -381,6 +382,7 @@ void private_file(void)
     iocb(0x00, 4, 0);
     transfer(TWYNARVEL_WRITE, TWYNARVEL_NEXT | TWYNARVEL_IMAGE, 7, 0, 4);
     want(IMAGE, 0xA04, "0000000C");
+    want(IMAGE, 0x27C, "00000002");
     want(IMAGE, 0xB06, "0004 51525354");
     want(DESK, 84, "01 02 0000 03 01 0100 00000001");
     iocb(0x00, 4, 0);
@@ -403,7 +405,7 @@ void private_file(void)
     want_fill(IMAGE, 0x260, 32, 0);
     want(IMAGE, 0x101, "C1");
     erase(0x00, 5);
-    want(IMAGE, 0x260, "01 01" FILE_NEW "00C9 0000 000A 0000 0000");
+    want(IMAGE, 0x260, "01 01" FILE_NEW "00C9 0000 000A 00000000");
     want(IMAGE, 0x101, "E1");
     want_fill(IMAGE, 0xA00, 256, 0);
     allocate(0x00, 5, TWYNARVEL_SEQUENTIAL, 0, 0, 0xC9);

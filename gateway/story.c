@@ -35,7 +35,7 @@ void story(void)
 
     rule("story: 3, allocate a variable sequential file");
     name(FILE_Y);
-    want(IMAGE, 0x220, "01 01" FILE_Y "0000 0000 0006 0000 0000");
+    want(IMAGE, 0x220, "01 01" FILE_Y "0000 0000 0006 00000000");
     want(IMAGE, 0x100, "FE");
     allocate(0x00, 5, TWYNARVEL_SEQUENTIAL, 0, 0, 0);
     check_free(8);
@@ -46,6 +46,7 @@ void story(void)
     put(TASK, 0, "414243");
     transfer(TWYNARVEL_WRITE, TWYNARVEL_NEXT, 0, 0, 3);
     want(IMAGE, 0x600, "0001 0001 00000006 0007 0001");
+    want(IMAGE, 0x23C, "00000001"); /* the record count */
     want(IMAGE, 0x700, "0003 414243 00");
     want(IMAGE, 0x100, "FF");
     want(DESK, 0, "01 04 0005 01 01 0000 00000000");
@@ -64,6 +65,7 @@ void story(void)
         poke(TASK, k, 1 + k % 31); /* below the space, so that a text is stored as it is */
     transfer(TWYNARVEL_WRITE, TWYNARVEL_NEXT, 0, 0, 250);
     want(IMAGE, 0x600, "0002 0002 00000102 0007 0001 0003 0001");
+    want(IMAGE, 0x23C, "00000002"); /* "After step 6 of the small volume the long word is 2" */
     want(IMAGE, 0x706, "00FA");
     memcpy(area[IMAGE].want + 0x708, area[TASK].at, 248);
     want_fill(IMAGE, 0x300, 256, 0); /* a new sector holds zeros but for the record's bytes: the last two */
@@ -135,6 +137,7 @@ void story(void)
     lend(TASK, 129, 0x20);
     transfer(TWYNARVEL_WRITE, TWYNARVEL_NEXT, 0, 0, 129);
     want(IMAGE, 0x604, "00000106");
+    want(IMAGE, 0x23C, "00000003");
     want(IMAGE, 0x302, "0002 FF82");
     want(DESK, 0, "01 04 0005 01 01 0000 00000002");
     iocb(0x00, 129, 5);
@@ -167,6 +170,7 @@ static void text(unsigned spaces, const char *packed, size_t stored)
     memset(area[TASK].want, 0x20, spaces);
     transfer(TWYNARVEL_WRITE, TWYNARVEL_NEXT, 0, 0, spaces);
     area[IMAGE].want[0x607] = (uint8_t)(0x16 + 2 + stored + stored % 2);
+    want(IMAGE, 0x23C, "00000006");
     area[IMAGE].want[0x717] = (uint8_t)stored;
     want(IMAGE, 0x718, packed);
     want(DESK, 8, "00000005");
@@ -207,6 +211,7 @@ void texts(void)
     put(TASK, 0, "41 20 42 2020 7F 20");
     transfer(TWYNARVEL_WRITE, TWYNARVEL_NEXT, 0, 0, 7);
     want(IMAGE, 0x604, "0000001E");
+    want(IMAGE, 0x23C, "00000006");
     want(IMAGE, 0x716, "0006 41 20 42 82 7F 20");
     want(DESK, 8, "00000005");
     iocb(0x00, 7, 5);
@@ -225,6 +230,7 @@ void texts(void)
     iocb(0x00, 3, 5);
     transfer(TWYNARVEL_WRITE, TWYNARVEL_NEXT | TWYNARVEL_IMAGE, 0, 0, 3);
     want(IMAGE, 0x604, "0000001C");
+    want(IMAGE, 0x23C, "00000006");
     want(IMAGE, 0x716, "0003 4142FF 00");
     want(DESK, 8, "00000005");
     iocb(0x00, 3, 5);
@@ -238,6 +244,7 @@ void texts(void)
     transfer(TWYNARVEL_WRITE, TWYNARVEL_NEXT | TWYNARVEL_IMAGE, 0, 0, 1024);
     want(IMAGE, 0x100, "FF FD"); /* E was 22; 22 + 1,026 = 1,048 bytes are 5 sectors: four new ones, 10 to 13 */
     want(IMAGE, 0x600, "0002 0005 00000418 0007 0001 000A 0004");
+    want(IMAGE, 0x23C, "00000006");
     want(IMAGE, 0x716, "0400 21");
     want_fill(IMAGE, 0x719, 0x100 - 0x19, 0xEE);
     want_fill(IMAGE, 0xA00, 1024 - (0x100 - 0x18), 0xEE);
@@ -368,6 +375,7 @@ void fixed(void)
     iocb(0x84, 0, 5);
     transfer(TWYNARVEL_WRITE, TWYNARVEL_RANDOM, 2, 2, 4);
     want(IMAGE, 0x804, "0000000C");
+    want(IMAGE, 0x25C, "00000003");
     want(IMAGE, 0x908, "2020 80FF");
     want(DESK, 24, "01 04 0005 02 01 0000 00000002");
     iocb(0x00, 4, 5);
@@ -404,6 +412,7 @@ void places(void)
     house(1, 0);
     put(IMAGE, 0x259, "01"); /* Z of 512 records of one byte, in sectors 9 and 10 */
     put(IMAGE, 0x800, "0001 0002 00000200 0009 0002");
+    put(IMAGE, 0x25C, "00000200");
     put(IMAGE, 0x101, "E1");
     put(IMAGE, 0xA2C, "77");
     transfer(TWYNARVEL_READ, TWYNARVEL_RANDOM, 2, 0x12C, 1);
@@ -422,7 +431,7 @@ void places(void)
     assign(0x00, 5, 5, TWYNARVEL_PRPW, TWYNARVEL_AT_START, 0);
     rule("at the end of a file with no record");
     house(8, 0);
-    want(IMAGE, 0x260, "01 01" FILE_NEW "0000 0400 000A 0000 0000"); /* record length 1,024, access block 10 */
+    want(IMAGE, 0x260, "01 01" FILE_NEW "0000 0400 000A 00000000"); /* record length 1,024, access block 10 */
     want(IMAGE, 0x101, "E1");
     allocate(0x00, 0, TWYNARVEL_SEQUENTIAL, 0, 1024, 0);
     want(DESK, 60, "01 07 0005 03 00 0000 00000000");
@@ -522,7 +531,7 @@ void formats(void)
 }
 
 /* Byte by byte of Y's entry and access block in the small volume: with which values the volume is still sound. */
-static int entry_byte(unsigned byte, unsigned v)
+int entry_byte(unsigned byte, unsigned v)
 {
     int letter = v >= 'A' && v <= 'Z', digit = v >= '0' && v <= '9', space = v == ' ';
     switch (byte) {
@@ -533,23 +542,23 @@ static int entry_byte(unsigned byte, unsigned v)
     case 13: case 21: return letter || digit || space;
     case 20: return letter;
     case 23: return 1; /* the read-protect code of a file of user 5 */
-    case 25: return v == 0 || v == 1 || v == 2 || v == 11 || v == 22; /* fixed records: E = 22 is a multiple of L */
     case 27: return v == 6;
-    default: return byte < 20 ? space : v == 0; /* catalog and filename after a space; bytes that are zero */
+    case 31: return v == 5; /* the record count */
+    default: return byte < 20 ? space : v == 0; /* catalog and filename after a space; bytes that are zero; no fixed length has 5 records */
     }
 }
 
-static int block_byte(unsigned byte, unsigned v)
+int block_byte(unsigned byte, unsigned v)
 {
     switch (byte) {
     case 1: case 3: case 11: return v == 1; /* segments, total, the segment's length */
-    case 7: return v >= 22 && v % 2 == 0; /* E: zeros after the last record are empty records, of two bytes each */
+    case 7: return v == 22; /* E: zeros after the last record are empty records, and not of the count */
     case 9: return v == 7;
     default: return v == 0;
     }
 }
 
-static int trailer_byte(unsigned byte, unsigned v)
+int trailer_byte(unsigned byte, unsigned v)
 {
     static const uint8_t only[8] = {0x00, 0x10, 0x00, 0x0E, 0x00, 0x0D, 0x00, 0x01};
     return v == (byte < 8 ? only[byte] : 0);
@@ -570,6 +579,31 @@ static void each_value(const char *text, size_t from, unsigned bytes, int (*good
             check(good(byte, v) ? TWYNARVEL_SOUND + 5 : 0);
         }
         poke(IMAGE, from + byte, old);
+    }
+}
+
+/* Y with another record length or another E, and with each record count: 22 bytes are fixed records of 1, 2, 11 or 22 bytes. */
+static void other_counts(void)
+{
+    unsigned e, n;
+    rule("check: a record count (length or E, count)");
+    house(0, 0);
+    for (e = 0; e < 256; e++) {
+        poke(IMAGE, 0x239, e);
+        for (n = 0; n < 24; n++) {
+            of(e, n);
+            poke(IMAGE, 0x23F, n);
+            check((e == 0 && n == 5) || (e != 0 && e * n == 22) ? TWYNARVEL_SOUND + 5 : 0);
+        }
+    }
+    poke(IMAGE, 0x239, 0);
+    for (e = 0; e < 256; e++) {
+        poke(IMAGE, 0x607, e);
+        for (n = (unsigned)after_fence; n < 256; n += 2) { /* half of them in each round: they are many */
+            of(e, n);
+            poke(IMAGE, 0x23F, n);
+            check(n >= 5 && e == 22 + 2 * (n - 5) ? TWYNARVEL_SOUND + 5 : 0);
+        }
     }
 }
 
@@ -623,6 +657,7 @@ void soundness(void)
     each_value("check: the trailer (byte, value)", 0xF00, 256, trailer_byte);
     each_value("check: an entry (byte, value)", 0x220, 32, entry_byte);
     each_value("check: an access block (byte, value)", 0x600, 256, block_byte);
+    other_counts();
     rule("check: a stream");
     house(0, 0);
     poke(IMAGE, 0x71F, 1); /* the tail of Y's last sector is not zero */

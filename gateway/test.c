@@ -59,8 +59,9 @@ int main(void)
     static void (*const sections[])(void) = {
         names, example, block_lengths, desk_lengths, desk_forms, null_pointers, request_codes, options, selectors, parts, far_parts, sent_parts,
         story, texts, sectors, fixed, places, formats, soundness, modes, fitting, entry_codes, new_codes, offered_codes, kept_codes,
-        reads_by_code, private_file, order_of_format, order_of_allocate, order_of_assign, order_of_close, order_of_delete, order_of_rewind,
-        order_of_read, order_of_write, order_of_update, order_of_segments};
+        reads_by_code, private_file, fresh_volumes, old_volume, counts_left, old_bytes, old_lengths, long_counts, counted_appends,
+        order_of_format, order_of_allocate, order_of_assign, order_of_close, order_of_delete, order_of_rewind, order_of_read, order_of_write,
+        order_of_update, order_of_segments};
     size_t k;
     prepare();
     for (after_fence = 0; after_fence < 2; after_fence++)

@@ -2,11 +2,13 @@
  * twynarvel.h: the volume service, called from C or C++ with numbers and byte areas only.
  *
  * The library keeps nothing between calls. A volume is an image, which is bytes that the caller owns. The desk, which says who holds which
- * file, is 192 bytes that the caller owns too. Both go into each call, and an accepted call writes them. docs/RULES.md has every rule.
+ * file, is 192 bytes that the caller owns too. Both go into each call, and an accepted call writes them; twynarvel_check and
+ * twynarvel_bring_up alone are lent no desk. docs/RULES.md has every rule.
  *
  * How to begin: twynarvel_format makes a volume and an empty desk. twynarvel_allocate makes a file, and twynarvel_assign gives it to one of
  * sixteen logical units (LUNs). Then twynarvel_iocb reads, writes, updates and rewinds, by a request block. twynarvel_close frees the LUN.
- * To begin with a volume that is there, pass 192 zeros for the desk: they are the desk on which every LUN is free.
+ * To begin with a volume that is there, pass 192 zeros for the desk: they are the desk on which every LUN is free. A volume from before
+ * directory entries held record counts has to be brought up first, once, by twynarvel_bring_up.
  *
  * What the caller has to see to, in every call. Nothing here can test it, and no proof speaks of a call that breaks it:
  * - Each area is there for its whole length: every byte may be read, and written unless the pointer is to const.
@@ -45,7 +47,7 @@ extern "C" {
 #define TWYNARVEL_NO_SEGMENT 0x65      /* a 63rd segment would be needed */
 #define TWYNARVEL_NAME_TAKEN 0x66      /* a file of that descriptor is there */
 #define TWYNARVEL_DIRECTORY_FULL 0x67  /* no unused entry */
-#define TWYNARVEL_NOT_SOUND 0x6F       /* the volume is not sound, the desk does not fit it, or the desk bytes are bad */
+#define TWYNARVEL_NOT_SOUND 0x6F       /* the volume is not sound, or none to bring up; the desk does not fit it, or its bytes are bad */
 #define TWYNARVEL_BAD_REQUEST 0x82     /* a code that is not supported, a mode or selector that does not do, update of a contiguous file */
 #define TWYNARVEL_BAD_LENGTH 0x84      /* a wrong length of buffer or block, or a part that is not inside its area */
 #define TWYNARVEL_PAST_END 0xC2        /* the target is past the end */
@@ -189,6 +191,21 @@ uint32_t twynarvel_format(uint8_t *image, size_t image_len, uint8_t *desk, size_
  * Returns 0 if it is not sound; else TWYNARVEL_SOUND plus the number of free sectors. It never refuses.
  */
 uint32_t twynarvel_check(const uint8_t *image, size_t image_len);
+
+/*
+ * Brings up a volume from before directory entries held record counts: the number of records of each sequential file goes to bytes 28 to 31
+ * of its entry, the highest byte first. Those bytes were zero. With a record such a volume is not sound: until it is brought up,
+ * twynarvel_check returns 0 for it, and every other call but twynarvel_format refuses it.
+ *
+ * image    the volume. Those four bytes of the entries of sequential files are written if the call is accepted, and no other byte.
+ *
+ * It is lent no desk bytes. Those that were kept with the volume go on with it.
+ *
+ * Returns the status number. Refusals:
+ *   0x6F  the image is not sound by the rule of before, under which those bytes are zero. So a volume is brought up once. One that has no
+ *         record is sound by both rules: it is accepted each time, and stays as it is
+ */
+uint32_t twynarvel_bring_up(uint8_t *image, size_t image_len);
 
 /*
  * Makes a file. A contiguous file gets its sectors, zero-filled. A sequential one starts with no record.

@@ -17,8 +17,8 @@ use Rattle.files.specs.Files.{extent, sound}
 use Rattle.files.specs.Code.Verdict.{checkedOf}
 use Rattle.files.specs.Code.Slots.{InUse}
 use Rattle.files.proofs.SoundFacts.{facts}
-use Rattle.files.proofs.SlotInUse.{extent-run}
-use Rattle.work.proofs.Bounds.{run-few, extent-few}
+use Rattle.files.proofs.slot.SlotInUse.{extent-run}
+use Rattle.files.proofs.Bounds.{run-few, extent-few}
 
 pub extent-small : (img : List ℕ) (p : Layout) (k : ℕ) → InUse img p k → extent img (entryAt img k) < 4294967296
 extent-small img p k u = go (contiguous (entryAt img k)) refl

@@ -7,7 +7,7 @@ use Rattle.lists.proofs.Tests.{and-left, and-right}
 use Rattle.volume.specs.declared.locate.Layout.{Layout}
 use Rattle.volume.specs.Volume.{layoutOf}
 use Rattle.files.specs.Code.Slots.{InUse}
-use Rattle.files.proofs.UsedSlots.{used-slot}
+use Rattle.files.proofs.slot.UsedSlots.{used-slot}
 use Rattle.luns.proofs.Fitting.{Fitting, fitting}
 use Rattle.desk.specs.Desk.{State, lunAt, ready, mine}
 use Rattle.desk.specs.declared.opening.Aim.{Aim}

@@ -15,7 +15,7 @@ use Rattle.volume.specs.declared.locate.Layout.{Layout}
 use Rattle.volume.proofs.EntryFields.{descriptor-length}
 use Rattle.volume.proofs.Slots.{length-entries}
 use Rattle.files.specs.Code.Slots.{InUse}
-use Rattle.files.proofs.UsedSlots.{named-used}
+use Rattle.files.proofs.slot.UsedSlots.{named-used}
 use Rattle.work.specs.declared.Refusal.{Refusal}
 use Rattle.work.specs.Refusals.{Rule}
 use Rattle.work.specs.Volumes.{namedRules, slotOf, exists}

@@ -13,7 +13,7 @@ use Rattle.volume.specs.Volume.{layoutOf}
 use Rattle.volume.proofs.Located.{located-sound, layout-is}
 use Rattle.files.specs.Code.Verdict.{soundAt}
 use Rattle.files.proofs.SoundFacts.{facts}
-use Rattle.files.proofs.SoundVerdict.{sound-layout, no-layout}
+use Rattle.files.proofs.check.SoundVerdict.{sound-layout, no-layout}
 use Rattle.luns.specs.Luns.{fits}
 use Rattle.work.specs.declared.Refusal.{Refusal}
 use Rattle.work.specs.declared.Refusal.the-variants.{NotSound, BadLun}

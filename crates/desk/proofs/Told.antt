@@ -13,15 +13,16 @@ use Rattle.volume.specs.declared.locate.Layout.{Layout}
 use Rattle.work.specs.declared.Worked.{Worked}
 use Rattle.work.specs.declared.Worked.the-variants.{Did, Denied}
 use Rattle.work.specs.Refusals.{Rule}
-use Rattle.work.specs.Volumes.{formatRules, allocateRules, newFile}
+use Rattle.files.specs.Changes.{broughtUp}
+use Rattle.work.specs.Volumes.{formatRules, bringUpRules, allocateRules, newFile}
 use Rattle.work.specs.Transfers.{Moving, readRules, reading, writeRules, writing, updateRules, updating}
-use Rattle.work.specs.Code.Deeds.{Deed, deed, doneBy, moved, quiet, formatDeed, allocateDeed, readDeed, writeDeed, updateDeed}
+use Rattle.work.specs.Code.Deeds.{Deed, deed, doneBy, moved, quiet, formatDeed, bringUpDeed, allocateDeed, readDeed, writeDeed, updateDeed}
 use Rattle.work.proofs.Rules.{ruled-map}
 use Rattle.desk.specs.declared.Desk.{Desk}
 use Rattle.desk.specs.declared.opening.Aim.{Aim}
-use Rattle.desk.specs.Desk.{State, state, emptyDesk, fileOf, aimed}
+use Rattle.desk.specs.Desk.{State, state, emptyDesk, lunAt, fileOf, aimed}
 use Rattle.desk.specs.Answers.{Outcome, outcome, judged}
-use Rattle.desk.specs.Calls.{Format, Allocate, Read, Write, Update, rules, done, given, step, quietly, transferred, after, openRules}
+use Rattle.desk.specs.Calls.{Format, BringUp, Allocate, Read, Write, Update, rules, done, given, step, quietly, transferred, after, openRules}
 use Rattle.desk.specs.Code.Opened.{begunOf, aimOf, openedOf, answered, settled}
 use Rattle.desk.proofs.Openings.{begun-left, opened-aim, opened-left}
 use Rattle.desk.specs.declared.opening.Begun.the-variants as begun
@@ -50,6 +51,11 @@ module _ (img : List ℕ) (d : Desk) (w : Worked) where
   unfolding formatDeed step rules done given
   format-told img′ id n e = ap (answeredBy d emptyDesk) e ∙ quiet-told d emptyDesk (formatRules img id n) img (formatted id n (sectors img))
 
+  pub bring-up-told : (img′ : List ℕ) → deed w img′ [] ≡ bringUpDeed img
+      → outcome (answered d d w .answer) img′ (answered d d w .desk) [] ≡ step BringUp (state img d)
+  unfolding bringUpDeed step rules done given
+  bring-up-told img′ e = ap (answeredBy d d) e ∙ quiet-told d d (bringUpRules img) img (broughtUp img)
+
   pub allocate-told : (caller : ℕ) (p : Layout) → begunOf (state img d) (leb caller lastUser) ≡ begun.At p → (img′ desc : List ℕ) (k n l rc : ℕ)
       → deed w img′ [] ≡ allocateDeed img caller desc k n l rc
       → outcome (answered d d w .answer) img′ (answered d d w .desk) [] ≡ step (Allocate caller desc k n l rc) (state img d)
@@ -75,7 +81,7 @@ module _ (img : List ℕ) (d : Desk) (w : Worked) where
         ∙ sym (opened-left false s caller lun sel num a o (readRules img f i fmt (length buf)) buf _)
 
     pub write-told : openedOf true (state img d) caller lun sel num ≡ opened.At a → (img′ bs : List ℕ)
-        → deed w img′ bs ≡ writeDeed img (entryAt img (a .slot)) (a .i) fmt bs
+        → deed w img′ bs ≡ writeDeed img (a .slot) (a .i) fmt bs
         → outcome (settled d lun w .answer) img′ (settled d lun w .desk) bs ≡ step (Write caller lun sel num fmt bs) (state img d)
     unfolding writeDeed step rules done given openRules aimOf fileOf
     write-told o img′ bs e =
@@ -83,8 +89,8 @@ module _ (img : List ℕ) (d : Desk) (w : Worked) where
         let f = fileOf s lun in
         let i = aimed s lun sel num in
         let q : a ≡ aimOf s lun sel num = opened-aim true s caller lun sel num a o in
-        ap (settledBy d lun) (e ∙ ap (λ (x : Aim). writeDeed img (entryAt img (x .slot)) (x .i) fmt bs) q)
-        ∙ moved-told d lun (writeRules img f i fmt bs) img bs (writing img f i fmt bs)
+        ap (settledBy d lun) (e ∙ ap (λ (x : Aim). writeDeed img (x .slot) (x .i) fmt bs) q)
+        ∙ moved-told d lun (writeRules img f i fmt bs) img bs (writing img (lunAt d lun .slot) i fmt bs)
         ∙ sym (opened-left true s caller lun sel num a o (writeRules img f i fmt bs) bs _)
 
     pub update-told : openedOf true (state img d) caller lun sel num ≡ opened.At a → (img′ bs : List ℕ)

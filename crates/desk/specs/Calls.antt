@@ -16,7 +16,7 @@ use Rattle.volume.specs.Sat.{free}
 use Rattle.volume.specs.Formatted.{formatted}
 use Rattle.files.specs.Files.{extent, sound}
 use Rattle.files.specs.Rights.{hasRight}
-use Rattle.files.specs.Changes.{deleted}
+use Rattle.files.specs.Changes.{deleted, broughtUp}
 use Rattle.luns.specs.declared.Mode.{Mode}
 use Rattle.luns.specs.Luns.{placeless, agree, isHeld, movedTo, freeLun, readsByRight}
 use Rattle.luns.specs.declared.Place.{Place}
@@ -25,7 +25,7 @@ use Rattle.luns.specs.Modes.{writes, modeOf, reads}
 use Rattle.luns.specs.declared.Lun.{Lun}
 use Rattle.work.specs.declared.Refusal.the-variants.{BadLun, NotSound, BadRequest, WrongCode, NoRight, UnknownType, InUse}
 use Rattle.work.specs.Refusals.{Rule, _if_}
-use Rattle.work.specs.Volumes.{slotOf, namedRules, formatRules, allocateRules, newFile}
+use Rattle.work.specs.Volumes.{slotOf, namedRules, formatRules, bringUpRules, allocateRules, newFile}
 use Rattle.work.specs.Transfers.{readRules, writeRules, updateRules, Moving, reading, writing, updating, units}
 use Rattle.desk.specs.Desk.{State, ready, lunAt, mine, spare, fileOf, aimed, putLun, emptyDesk}
 use Rattle.desk.specs.declared.Desk.{Desk}
@@ -36,7 +36,7 @@ use Rattle.desk.specs.declared.Answer.{Answer}
 -- Any numbers, any bytes, any lengths; rc is a new file's read-protect code, `offered` the one that an assign offers
 pub data Call : Type 0 where
   Format : (id : List ℕ) (dirs : ℕ) → Call
-  Check : Call
+  Check BringUp : Call
   Allocate : (caller : ℕ) (desc : List ℕ) (kind size long rc : ℕ) → Call
   Assign : (caller lun : ℕ) (desc : List ℕ) (mode : ℕ) (end : Bool) (offered : ℕ) → Call
   Close Rewind : (caller lun : ℕ) → Call
@@ -44,7 +44,8 @@ pub data Call : Type 0 where
   Read : (caller lun sel num : ℕ) (formatted : Bool) (buffer : List ℕ) → Call
   Write Update : (caller lun sel num : ℕ) (formatted : Bool) (bytes : List ℕ) → Call
 
--- RULES, The calls: all but format and check begin with $6F and $03; `fine` says whether caller and LUN are as the call wants them
+-- RULES, The calls: all but format, check and bring-up begin with $6F and $03; `fine` says whether caller and LUN are as the call wants
+-- them
 unfoldable pub beginRules : State → Bool → List Rule
 beginRules s fine = NotSound if not (ready s) ∷ BadLun if not fine ∷ []
 
@@ -91,6 +92,7 @@ deleteRules s caller desc =
 
 -- RULES, Orders of refusals: format: $60
 -- RULES, Orders of refusals: check: none
+-- RULES, Orders of refusals: bring-up: $6F
 -- RULES, Orders of refusals: allocate: $6F, $03, $64, $02, $60, $0B, $66, $67, $63
 -- RULES, Orders of refusals: close, rewind: $6F, $03
 -- RULES, Orders of refusals: read: $6F, $03, $82, $84 (contiguous), $C2, $84 (sequential)
@@ -99,6 +101,7 @@ deleteRules s caller desc =
 unfoldable pub rules : Call → State → List Rule
 rules (Format id n) s = formatRules (s .image) id n
 rules Check s = []
+rules BringUp s = bringUpRules (s .image)
 rules (Allocate caller desc k n l rc) s = beginRules s (leb caller lastUser) ++ allocateRules (s .image) caller desc k n l rc
 rules (Assign caller lun desc mode end offered) s = assignRules s caller lun desc mode end offered
 rules (Close caller lun) s = beginRules s (mine (s .desk) caller lun)
@@ -136,6 +139,7 @@ checked s = record {
 unfoldable pub done : Call → State → Change
 done (Format id n) s = quietly (formatted id n (sectors (s .image))) emptyDesk
 done Check s = checked s
+done BringUp s = quietly (broughtUp (s .image)) (s .desk)
 done (Allocate caller desc k n l rc) s = quietly (newFile (s .image) desc k n l rc) (s .desk)
 done (Assign caller lun desc mode end offered) s =
     quietly (s .image) (putLun (s .desk) lun (newLun (s .image) caller desc mode end offered))
@@ -143,13 +147,14 @@ done (Close caller lun) s = quietly (s .image) (putLun (s .desk) lun freeLun)
 done (Rewind caller lun) s = quietly (s .image) (putLun (s .desk) lun (movedTo Fresh (lunAt (s .desk) lun)))
 done (Delete caller desc) s = quietly (deleted (slotOf (s .image) desc) (s .image)) (s .desk)
 done (Read caller lun sel num fmt buf) s = transferred s lun (reading (s .image) (fileOf s lun) (aimed s lun sel num) fmt buf)
-done (Write caller lun sel num fmt bs) s = transferred s lun (writing (s .image) (fileOf s lun) (aimed s lun sel num) fmt bs)
+done (Write caller lun sel num fmt bs) s = transferred s lun (writing (s .image) (lunAt (s .desk) lun .slot) (aimed s lun sel num) fmt bs)
 done (Update caller lun sel num fmt bs) s = transferred s lun (updating (s .image) (fileOf s lun) (aimed s lun sel num) fmt bs)
 
 -- the buffer that a call is lent, and the bytes that its caller sends
 unfoldable pub given : Call → List ℕ
 given (Format id n) = []
 given Check = []
+given BringUp = []
 given (Allocate caller desc k n l rc) = []
 given (Assign caller lun desc mode end offered) = []
 given (Close caller lun) = []
@@ -162,6 +167,7 @@ given (Update caller lun sel num fmt bs) = bs
 unfoldable pub sent : Call → List ℕ
 sent (Format id n) = id
 sent Check = []
+sent BringUp = []
 sent (Allocate caller desc k n l rc) = rc ∷ desc
 sent (Assign caller lun desc mode end offered) = offered ∷ desc
 sent (Close caller lun) = []
@@ -172,17 +178,19 @@ sent (Write caller lun sel num fmt bs) = bs
 sent (Update caller lun sel num fmt bs) = bs
 
 -- RULES, The calls: what a call may touch of the files that are there: nothing; one file; of one file n records or sectors from i on;
--- where files lie, and nothing that is read from them; everything
+-- record counts in entries, and nothing else; where files lie, and nothing that is read from them; everything
 pub data Touch : Type 0 where
   Nothing : Touch
   OneFile : (slot : ℕ) → Touch
   Units : (slot i n : ℕ) → Touch
+  RecordCounts : Touch
   WhereFilesLie : Touch
   Everything : Touch
 
 unfoldable pub touch : Call → State → Touch
 touch (Format id n) s = Everything
 touch Check s = Nothing
+touch BringUp s = RecordCounts
 touch (Allocate caller desc k n l rc) s = Nothing
 touch (Assign caller lun desc mode end offered) s = Nothing
 touch (Close caller lun) s = Nothing

@@ -1,6 +1,6 @@
-// The public face: the desk of sixteen logical units (LUNs), and the ten calls as its methods: format and check (volumes), allocate,
-// delete, assign, close, rewind, read, write, update. Each takes any image, any desk and any numbers, hands the desk back in its reply,
-// and states one equation: answer, image, desk and buffer are those of `step` of specs/Calls.
+// The public face: the desk of sixteen logical units (LUNs), and the eleven calls as its methods: format, check and bring-up (volumes),
+// allocate, delete, assign, close, rewind, read, write, update. Each takes any image, any desk and any numbers, hands the desk back in its
+// reply, and states one equation: answer, image, desk and buffer are those of `step` of specs/Calls.
 use luns::Lun;
 use numbers::LUNS;
 use work::Refusal;

@@ -1,11 +1,12 @@
-// Format, which makes a volume of any bytes, and check, which judges any bytes.
+// Format, which makes a volume of any bytes, check, which judges any bytes, and bring-up of a volume from before there were record counts.
 ghost use mathlib.Core.List.{[]};
 ghost use Rattle.desk.specs.Desk.{state};
-ghost use Rattle.desk.specs.Calls.{Ensured, Format, Check};
+ghost use Rattle.desk.specs.Calls.{Ensured, Format, Check, BringUp};
 use crate::Desk;
 use crate::Reply;
 use crate::Report;
 use files::check;
+use work::bringing;
 use work::formatting;
 
 impl Desk {
@@ -31,5 +32,13 @@ impl Desk {
             },
             self,
         )
+    }
+
+    /// Gives each sequential entry of a volume from before there were record counts its count, and changes nothing else. Looks at no desk.
+    /// Refuses a volume that is not sound by the rule of before, under which those bytes are zero.
+    pub fn bring_up(self, image: &mut [u8]) -> Reply
+        ensures { λ r. ⌜ Ensured BringUp (state (now (image .entry)) self) (r .answer) (now (image .exit)) (r .desk) [] ⌝ }
+    {
+        self.answer(self, bringing::bring_up(image))
     }
 }

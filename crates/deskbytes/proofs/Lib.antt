@@ -1,5 +1,4 @@
 pub mod Filling
-pub mod JoinedPieces
 pub mod LunBytes
 pub mod PackedDesk
 pub mod PackedLun

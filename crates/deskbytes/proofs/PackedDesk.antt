@@ -8,19 +8,21 @@ use borrow.Author.Tests.{eq-eqb}
 use Rattle.numbers.specs.Numbers.{lunCount}
 use Rattle.lists.specs.Lists.{all, flat, pieces}
 use Rattle.lists.proofs.AreBytes.{Bytes}
+use Rattle.lists.proofs.ByteLists.{bytes-flat}
 use Rattle.lists.proofs.Lists.{all-nil, all-cons}
+use Rattle.lists.proofs.Pieces.{length-flat, pieces-flat}
 use Rattle.lists.proofs.Tests.{both-true}
 use Rattle.luns.specs.declared.Lun.{Lun}
 use Rattle.luns.specs.Luns.{freeLun}
 use Rattle.deskbytes.specs.DeskBytes.{lunBytes, deskSize, packedLun, packedLuns, lunForm, deskForm, unpackedLun, unpackedLuns, PlainLun, PlainLuns}
-use Rattle.deskbytes.proofs.JoinedPieces.{bytes-flat, length-flat, pieces-flat}
 use Rattle.deskbytes.proofs.LunBytes.{length-packedLun}
 use Rattle.deskbytes.proofs.PackedLun.{bytes-packedLun, lun-back, lun-form}
 
 -- the pieces are the LUNs' bytes
 packed-pieces : (us : List Lun) → length us ≡ lunCount → pieces lunCount lunBytes (packedLuns us) ≡ map packedLun us
 unfolding packedLuns
-packed-pieces us n = ap (λ (k : ℕ). pieces k lunBytes (flat packedLun us)) (sym n) ∙ pieces-flat packedLun lunBytes length-packedLun us
+packed-pieces us n = ap (λ (k : ℕ). pieces k lunBytes (flat packedLun us)) (sym n)
+    ∙ pieces-flat lunBytes packedLun freeLun us (λ i l. length-packedLun (getD us i freeLun))
 
 each-back : (us : List Lun) → ((k : ℕ) → PlainLun (getD us k freeLun)) → map unpackedLun (map packedLun us) ≡ us
 each-back [] h = refl
@@ -36,7 +38,7 @@ packed-back us h = rw (packed-pieces us (h .sixteen)) (each-back us (h .each-pla
 
 pub length-packed : (us : List Lun) → length us ≡ lunCount → length (packedLuns us) ≡ deskSize
 unfolding packedLuns
-length-packed us n = length-flat packedLun lunBytes length-packedLun us ∙ ap (λ (k : ℕ). lunBytes * k) n
+length-packed us n = length-flat lunBytes packedLun freeLun us (λ i l. length-packedLun (getD us i freeLun)) ∙ ap (λ (k : ℕ). lunBytes * k) n
 
 pub packed-form : (us : List Lun) → PlainLuns us → deskForm (packedLuns us) ≡ true
 unfolding deskForm
@@ -48,4 +50,4 @@ packedLuns-one-one us vs hu hv e = sym (packed-back us hu) ∙ ap unpackedLuns e
 
 pub bytes-packedLuns : (us : List Lun) → Bytes (packedLuns us)
 unfolding packedLuns
-bytes-packedLuns us = bytes-flat packedLun bytes-packedLun us
+bytes-packedLuns us = bytes-flat packedLun us freeLun (λ i l. bytes-packedLun (getD us i freeLun))

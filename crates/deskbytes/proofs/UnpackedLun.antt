@@ -1,12 +1,13 @@
 -- Twelve bytes of the form stand for a plain LUN, which packs into them.
 use mathlib.Core.Path.{_≡_, refl, sym, ap, _∙_}
 use mathlib.Core.Bool.{Bool, true, false, not, true≢false}
-use mathlib.Core.List.{List}
+use mathlib.Core.List.{List, _∷_, map}
 use Prim.Native.Nat.{ℕ, zero, suc, _+_, _*_, _/_, _%_, _<_, _≤_}
 use native.Mathlib.Omega.{arith}
 use native.Mathlib.Nat.{mul-add-div, mul-add-mod-self-left, div-eq-of-lt, mod-eq-of-lt}
 use lib.Dec.{eqb}
-use lib.ListN.{length, replicate}
+use lib.ListN.{length, replicate, drop, drop-of-length-le}
+use lib.Seq.{drop-cons}
 use borrow.Author.Tests.{eqb-true, eqb-false, eq-eqb, leb-true}
 use Rattle.lists.specs.Lists.{range}
 use Rattle.lists.specs.Parts.{byte, word, long, blanks, zeros}
@@ -17,7 +18,12 @@ use Rattle.luns.specs.declared.Place.the-variants.{Fresh, At}
 use Rattle.luns.specs.Luns.{freeLun}
 use Rattle.luns.specs.Modes.{modeOf, modeNumber}
 use Rattle.deskbytes.specs.DeskBytes.{lunBytes, countOf, firstOf, packedLun, lunForm, placeIn, unpackedLun, PlainPlace, PlainLun}
-use Rattle.deskbytes.proofs.JoinedPieces.{listed}
+
+-- the n bytes from i on, one by one
+listed : (b : List ℕ) (i n : ℕ) → length b ≡ i + n → drop i b ≡ map (byte b) (range i n)
+unfolding range
+listed b i zero h = let l : length b ≤ i = omega arith in drop-of-length-le b l
+listed b i (suc n) h = drop-cons b i 0 (omega arith) ∙ ap (λ (l : List ℕ). byte b i ∷ l) (listed b (suc i) n (omega arith))
 
 mode-kept : (k : ℕ) → k ≤ 7 → modeNumber (modeOf k) ≡ k
 unfolding modeOf

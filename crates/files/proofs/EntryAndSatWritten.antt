@@ -10,7 +10,7 @@ use lib.ListN.{length, getD, set}
 use borrow.Author.Tests.{eq-eqb, ne-eqb}
 use Rattle.lists.specs.Lists.{_or_, range, among}
 use Rattle.lists.specs.Parts.{sectors}
-use Rattle.lists.proofs.Tests.{or-left, or-right, or-first, or-second, not-both}
+use Rattle.lists.proofs.Tests.{or-left, or-right, or-first, or-second, is-false, not-both}
 use Rattle.lists.proofs.Keeps.{Keeps}
 use Rattle.lists.proofs.RangeParts.{keeps-range}
 use Rattle.lists.proofs.Lists.{among-append}
@@ -19,7 +19,7 @@ use Rattle.volume.specs.Directory.{entries, entryAt}
 use Rattle.volume.proofs.LayoutKept.{keeps-dirAt, keeps-dirs}
 use Rattle.volume.proofs.Slots.{length-entries}
 use Rattle.ownership.specs.Owners.{owned}
-use Rattle.files.proofs.FileSame.{clear}
+use Rattle.files.proofs.Kept.FileSame.{clear}
 use Rattle.files.proofs.SoundFacts.{Facts}
 use Rattle.files.proofs.OwnersApart.{clear-by, clear-at, system-apart, sat-not-dir, clear-flip, clear-join, zero-not, last-not}
 use Rattle.files.proofs.OneFileChanged.{Changed}
@@ -76,6 +76,12 @@ module _ (v : List ℕ) (F : Facts v) where
 
   pub owned-not-tables : (i : ℕ) → i < 8 * dirs v → clear (tables v) (owned v (entryAt v i)) ≡ true
   owned-not-tables i h = clear-by (tables v) (owned v (entryAt v i)) (λ u m. not-system v u (clear-at (system v) (owned v (entryAt v i)) u (system-apart v F i h) m))
+
+  pub owned-not-dir : (i : ℕ) → i < 8 * dirs v → clear (range (dirAt v) (dirs v)) (owned v (entryAt v i)) ≡ true
+  owned-not-dir i h =
+      clear-by (range (dirAt v) (dirs v)) (owned v (entryAt v i)) (λ u m.
+      is-false (among u (range (dirAt v) (dirs v))) (λ q.
+      true≢false (sym (in-dir v u q) ∙ clear-at (system v) (owned v (entryAt v i)) u (system-apart v F i h) m)))
 
 pub one-among : (u s : ℕ) → eqb u s ≡ false → among u (range s 1) ≡ false
 unfolding range among

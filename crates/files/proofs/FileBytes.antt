@@ -1,25 +1,18 @@
 -- What is made of bytes is bytes: a file's bytes, and an image with bytes laid over sectors of it.
 use mathlib.Core.List.{List, [], _∷_}
 use Prim.Native.Nat.{ℕ}
-use native.Mathlib.Omega.{arith}
-use lib.ListN.{take, drop}
-use Rattle.lists.specs.Lists.{flat}
+use lib.ListN.{getD, take, drop}
 use Rattle.lists.specs.Parts.{sector, putSector, filled}
 use Rattle.lists.proofs.AreBytes.{Bytes}
-use Rattle.lists.proofs.ByteLists.{bytes-append, bytes-sector, bytes-take, bytes-drop, bytes-filled, bytes-putSector}
+use Rattle.lists.proofs.ByteLists.{bytes-flat, bytes-sector, bytes-take, bytes-drop, bytes-filled, bytes-putSector}
 use Rattle.records.specs.Streams.{laidOut, laid}
 use Rattle.ownership.specs.Blocks.{block, streamLength}
 use Rattle.ownership.specs.Owners.{logical}
 use Rattle.files.specs.Files.{stored, stream}
 
-pub bytes-flat : {A : Type 0} (f : A → List ℕ) (xs : List A) → ((x : A) → Bytes (f x)) → Bytes (flat f xs)
-unfolding flat
-bytes-flat f [] h i = omega arith
-bytes-flat f (x ∷ xs) h i = bytes-append (f x) (flat f xs) (h x) (bytes-flat f xs h) i
-
 pub bytes-laidOut : (v ss : List ℕ) → Bytes v → Bytes (laidOut v ss)
 unfolding laidOut
-bytes-laidOut v ss h = bytes-flat (λ s. sector s v) ss (λ s. bytes-sector s v h)
+bytes-laidOut v ss h = bytes-flat (λ s. sector s v) ss 0 (λ i l. bytes-sector (getD ss i 0) v h)
 
 pub bytes-stream : (v e : List ℕ) → Bytes v → Bytes (stream v e)
 unfolding stream stored

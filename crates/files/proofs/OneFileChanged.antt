@@ -6,26 +6,28 @@ use mathlib.Core.List.{List, [], _++_, append-assoc}
 use mathlib.Core.Logic.{_≢_}
 use Prim.Native.Nat.{ℕ, _-_, _*_, _<_}
 use native.Mathlib.Omega.{arith}
-use lib.ListN.{set, length, getD, take}
-use lib.Seq.{take-take, getD-set-same, getD-set-other}
+use lib.ListN.{set, length, getD}
+use lib.Seq.{getD-set-same, getD-set-other}
 use Rattle.lists.specs.Lists.{_and_, among, _or_, all, distinct}
-use Rattle.lists.specs.Parts.{sectors, part, sector}
+use Rattle.lists.specs.Parts.{sectors}
 use Rattle.lists.proofs.Keeps.{Keeps}
 use Rattle.lists.proofs.Tests.{both-true}
 use Rattle.lists.proofs.JoinedLists.{all-set}
 use Rattle.lists.proofs.Replaced.{all-replaced, Split, split}
 use Rattle.lists.proofs.Lists.{same-refl}
-use Rattle.volume.specs.Volume.{dirs, satAt, dirAt, sat, system, layoutOf, sound1}
+use Rattle.volume.specs.Volume.{dirs, satAt, sat, system, sound1}
 use Rattle.volume.specs.Directory.{entries, entryAt, unused, valid, namesDiffer, sound2}
 use Rattle.volume.specs.Sat.{satOf}
-use Rattle.volume.proofs.LayoutKept.{keeps-sectors, keeps-trailer, keeps-satAt, keeps-dirAt, keeps-dirs}
+use Rattle.volume.proofs.LayoutKept.{keeps-sectors, keeps-satAt}
 use Rattle.volume.proofs.Slots.{length-entries}
 use Rattle.ownership.specs.Owners.{owned, allOwned, sound5}
 use Rattle.ownership.specs.Blocks.{placed, sound3}
 use Rattle.ownership.proofs.OwnedRuns.{owned-unused}
-use Rattle.files.specs.Files.{tailSound, recordsSound, sound4, sound}
-use Rattle.files.proofs.FileSame.{clear, Same, same-file}
-use Rattle.files.proofs.SoundFacts.{Facts, sound-is, placed-unused, content-unused}
+use Rattle.files.specs.Files.{tailSound, recordsSound, sound4, soundButCounts, countIs, countsAre, recordsIn, sound}
+use Rattle.files.proofs.Kept.FileSame.{clear, Same, same-file}
+use Rattle.files.proofs.Kept.FrameKept.{frame-system, frame-1}
+use Rattle.files.proofs.Kept.RecordsSame.{count-same}
+use Rattle.files.proofs.SoundFacts.{Facts, CountsTrue, sound-but, sound-is, placed-unused, content-unused, count-unused}
 
 -- v′ is v with slot k made e′, writing no sectors but ws
 pub record Changed (v v′ : List ℕ) (k : ℕ) (e′ ws : List ℕ) : Type 0 where
@@ -43,23 +45,11 @@ module _ (v v′ : List ℕ) (k : ℕ) (e′ ws : List ℕ) (C : Changed v v′ 
   pub satAt-kept : satAt v′ ≡ satAt v
   satAt-kept = keeps-satAt ws v v′ (C .keeps) (C .last-out)
 
-  pub dirAt-kept : dirAt v′ ≡ dirAt v
-  dirAt-kept = keeps-dirAt ws v v′ (C .keeps) (C .last-out)
-
-  pub dirs-kept : dirs v′ ≡ dirs v
-  dirs-kept = keeps-dirs ws v v′ (C .keeps) (C .last-out)
-
   pub system-kept : system v′ ≡ system v
-  unfolding system layoutOf
-  system-kept = rw (sectors-kept, satAt-kept, dirAt-kept, dirs-kept)
-
-  pub vid-kept : take 4 v′ ≡ take 4 v
-  unfolding sector part
-  vid-kept = sym (take-take 4 256 v′ (omega arith)) ∙ ap (take 4) (C .keeps .at 0 (C .vid-out)) ∙ take-take 4 256 v (omega arith)
+  system-kept = frame-system ws v v′ (C .keeps) (C .vid-out) (C .last-out)
 
   pub point-1 : sound1 v ≡ true → sound1 v′ ≡ true
-  unfolding sound1
-  point-1 h = rw (C .keeps .long, sectors-kept, keeps-trailer ws v v′ (C .keeps) (C .last-out), dirs-kept, dirAt-kept, vid-kept) h
+  point-1 = frame-1 ws v v′ (C .keeps) (C .vid-out) (C .last-out)
 
   -- every other entry, and the file behind it
   pub entry-other : (i : ℕ) → i ≢ k → entryAt v′ i ≡ entryAt v i
@@ -133,7 +123,20 @@ module _ (v v′ : List ℕ) (k : ℕ) (e′ ws : List ℕ) (C : Changed v v′ 
   unfolding sound2
   point-2 g n h = rw (C .entries-are) (both-true _ _ (all-set (λ e. unused e or valid e) (entries v) k e′ h g) n)
 
-  pub change-sound : Facts v → unused e′ or valid e′ ≡ true → namesDiffer (set (entries v) k e′) ≡ true → placed v′ e′ ≡ true → tailSound v′ e′ and recordsSound v′ e′ ≡ true
-      → distinct (ahead ++ (owned v′ e′ ++ behind)) ≡ true → sat v′ ≡ satOf (sectors v) (ahead ++ (owned v′ e′ ++ behind)) → sound v′ ≡ true
-  change-sound F g n p c d s =
-      sound-is v′ (point-1 (F .one)) (point-2 g n (F .each-valid)) (point-3 (F .three) p) (point-4 (F .four) c) (point-5 d s)
+  -- the volume is sound but for the counts; and they are right, if those of the others were and the one of slot k is
+  pub change-but : Facts v → unused e′ or valid e′ ≡ true → namesDiffer (set (entries v) k e′) ≡ true → placed v′ e′ ≡ true → tailSound v′ e′ and recordsSound v′ e′ ≡ true
+      → distinct (ahead ++ (owned v′ e′ ++ behind)) ≡ true → sat v′ ≡ satOf (sectors v) (ahead ++ (owned v′ e′ ++ behind)) → soundButCounts v′ ≡ true
+  change-but F g n p c d s =
+      sound-but v′ (point-1 (F .one)) (point-2 g n (F .each-valid)) (point-3 (F .three) p) (point-4 (F .four) c) (point-5 d s)
+
+  pub counts-kept : CountsTrue v → countIs (recordsIn v′) e′ ≡ true → CountsTrue v′
+  unfolding countsAre
+  counts-kept h p =
+      rw (C .entries-are)
+      (all-replaced (countIs (recordsIn v)) (countIs (recordsIn v′)) (entries v) k [] e′
+      (other (countIs (recordsIn v)) (countIs (recordsIn v′)) (count-unused (recordsIn v)) (count-unused (recordsIn v′)) (λ e s. count-same v v′ e s)) h p)
+
+  pub change-sound : Facts v → CountsTrue v → unused e′ or valid e′ ≡ true → namesDiffer (set (entries v) k e′) ≡ true → placed v′ e′ ≡ true
+      → tailSound v′ e′ and recordsSound v′ e′ ≡ true → countIs (recordsIn v′) e′ ≡ true → distinct (ahead ++ (owned v′ e′ ++ behind)) ≡ true
+      → sat v′ ≡ satOf (sectors v) (ahead ++ (owned v′ e′ ++ behind)) → sound v′ ≡ true
+  change-sound F t g n p c m d s = sound-is v′ (change-but F g n p c d s) (counts-kept t m)

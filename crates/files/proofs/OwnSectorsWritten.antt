@@ -16,10 +16,10 @@ use Rattle.volume.specs.Sat.{satOf, freeSectors, free}
 use Rattle.volume.proofs.Slots.{length-entries}
 use Rattle.ownership.specs.Blocks.{placed}
 use Rattle.ownership.specs.Owners.{owned, allOwned}
-use Rattle.files.specs.Files.{tailSound, recordsSound, sound}
-use Rattle.files.proofs.FileSame.{clear}
+use Rattle.files.specs.Files.{tailSound, recordsSound, countIs, countsAre, recordsIn, sound}
+use Rattle.files.proofs.Kept.FileSame.{clear}
 use Rattle.files.proofs.OwnersApart.{clear-by, clear-at, clear-flip, system-apart, slots-apart}
-use Rattle.files.proofs.SoundFacts.{Facts}
+use Rattle.files.proofs.SoundFacts.{Facts, CountsTrue}
 use Rattle.files.proofs.OneFileChanged.{Changed, change-sound, owned-was, ahead, behind, satAt-kept, sectors-kept}
 use Rattle.files.proofs.EntryAndSatWritten.{changed-file, in-sat}
 
@@ -49,6 +49,10 @@ module _ (v : List ℕ) (F : Facts v) (k : ℕ) (hk : k < 8 * dirs v) where
   pub slot-content : tailSound v (entryAt v k) and recordsSound v (entryAt v k) ≡ true
   unfolding entryAt
   slot-content = all-at (λ e. tailSound v e and recordsSound v e) (entries v) k [] (F .each-content) (omega (arith, length-entries v))
+
+  pub slot-count : (f : List ℕ → ℕ) → countsAre f v ≡ true → countIs f (entryAt v k) ≡ true
+  unfolding entryAt countsAre
+  slot-count f t = all-at (countIs f) (entries v) k [] t (omega (arith, length-entries v))
 
   pub slot-names : namesDiffer (set (entries v) k (entryAt v k)) ≡ true
   unfolding entryAt
@@ -81,12 +85,12 @@ module _ (v : List ℕ) (F : Facts v) (k : ℕ) (hk : k < 8 * dirs v) (ds v′ :
   unfolding free
   free-within = rw freeSectors-within
 
-  pub sound-within : owned v′ (entryAt v k) ≡ owned v (entryAt v k) → placed v′ (entryAt v k) ≡ true → tailSound v′ (entryAt v k) and recordsSound v′ (entryAt v k) ≡ true
-      → sound v′ ≡ true
-  sound-within o p c =
+  pub sound-within : CountsTrue v → owned v′ (entryAt v k) ≡ owned v (entryAt v k) → placed v′ (entryAt v k) ≡ true
+      → tailSound v′ (entryAt v k) and recordsSound v′ (entryAt v k) ≡ true → countIs (recordsIn v′) (entryAt v k) ≡ true → sound v′ ≡ true
+  sound-within t o p c m =
       let ws : List ℕ = ds ++ range (satAt v) 1 in
       let e : List ℕ = entryAt v k in
       let was : allOwned v ≡ ahead v v′ k e ws changed-within ++ (owned v′ e ++ behind v v′ k e ws changed-within) =
       rw o (owned-was v v′ k e ws changed-within) in
-      change-sound v v′ k e ws changed-within F (slot-valid v F k hk) (slot-names v F k hk) p c
+      change-sound v v′ k e ws changed-within F t (slot-valid v F k hk) (slot-names v F k hk) p c m
       (ap distinct (sym was) ∙ F .none-twice) (sat-within ∙ F .sat-right ∙ ap (satOf (sectors v)) was)

@@ -22,7 +22,7 @@ use Rattle.volume.specs.Directory.{entries, entryAt}
 use Rattle.volume.proofs.Slots.{length-entries}
 use Rattle.ownership.specs.Owners.{owned, allOwned}
 use Rattle.ownership.proofs.OwnedRuns.{owned-unused}
-use Rattle.files.proofs.FileSame.{clear}
+use Rattle.files.proofs.Kept.FileSame.{clear}
 use Rattle.files.proofs.SoundFacts.{Facts}
 
 -- a test at each member is a test of all

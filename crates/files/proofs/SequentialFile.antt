@@ -69,7 +69,7 @@ module _ (v : List ℕ) (F : Facts v) (k : ℕ) (hk : k < 8 * dirs v) (used : un
   unfolding valid
   record-length =
       let g : valid e ≡ true = or-cases _ _ (slot-valid v F k hk) used in
-      leb-true _ _ (and-right _ _ (rw seq at (and-right _ _ g)))
+      leb-true _ _ (rw seq at (and-right _ _ g))
 
   -- its access block
   pub fab-inside : start (entryAt v k) < sectors v

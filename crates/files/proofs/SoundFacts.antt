@@ -1,4 +1,5 @@
--- What soundness says, drawn once as facts; the kinds of entries, and what an unused one passes.
+-- What soundness says, drawn once as facts, which record counts are none of: they hold of a volume from before there were counts too. The
+-- kinds of entries, and what an unused one passes.
 use mathlib.Core.Path.{_≡_}
 use mathlib.Core.Bool.{true}
 use mathlib.Core.List.{List}
@@ -16,7 +17,7 @@ use Rattle.volume.specs.Directory.{entries, unused, valid, namesDiffer, sound2}
 use Rattle.volume.specs.Sat.{satOf}
 use Rattle.ownership.specs.Blocks.{placed, sound3}
 use Rattle.ownership.specs.Owners.{allOwned, sound5}
-use Rattle.files.specs.Files.{tailSound, recordsSound, sound4, sound}
+use Rattle.files.specs.Files.{tailSound, recordsSound, sound4, soundButCounts, countIs, countsAre, recordsIn, noCount, sound, soundBefore}
 
 pub record Facts (v : List ℕ) : Type 0 where
   pub one : sound1 v ≡ true
@@ -36,9 +37,9 @@ pub record Facts (v : List ℕ) : Type 0 where
   pub sat-in : satAt v < sectors v
   pub dir-in : dirAt v + dirs v ≤ sectors v
 
-pub facts : (v : List ℕ) → sound v ≡ true → Facts v
-unfolding sound sound1 sound2 sound3 sound4 sound5 inRange satAt
-facts v s =
+pub facts-but : (v : List ℕ) → soundButCounts v ≡ true → Facts v
+unfolding soundButCounts sound1 sound2 sound3 sound4 sound5 inRange satAt
+facts-but v s =
     let a1234 = and-left _ _ s in
     let a123 = and-left _ _ a1234 in
     let a12 = and-left _ _ a123 in
@@ -67,9 +68,33 @@ facts v s =
       dir-in = leb-true _ _ (and-right _ _ p1);
     }
 
-pub sound-is : (v : List ℕ) → sound1 v ≡ true → sound2 v ≡ true → sound3 v ≡ true → sound4 v ≡ true → sound5 v ≡ true → sound v ≡ true
+pub facts : (v : List ℕ) → sound v ≡ true → Facts v
 unfolding sound
-sound-is v a b c d e = both-true _ _ (both-true _ _ (both-true _ _ (both-true _ _ a b) c) d) e
+facts v s = facts-but v (and-left _ _ s)
+
+pub facts-before : (v : List ℕ) → soundBefore v ≡ true → Facts v
+unfolding soundBefore
+facts-before v s = facts-but v (and-left _ _ s)
+
+-- .. and what it says of the counts
+abbrev pub CountsTrue : List ℕ → Type 0
+CountsTrue v = countsAre (recordsIn v) v ≡ true
+
+pub counts-true : (v : List ℕ) → sound v ≡ true → CountsTrue v
+unfolding sound
+counts-true v s = and-right _ _ s
+
+pub counts-before : (v : List ℕ) → soundBefore v ≡ true → countsAre noCount v ≡ true
+unfolding soundBefore
+counts-before v s = and-right _ _ s
+
+pub sound-but : (v : List ℕ) → sound1 v ≡ true → sound2 v ≡ true → sound3 v ≡ true → sound4 v ≡ true → sound5 v ≡ true → soundButCounts v ≡ true
+unfolding soundButCounts
+sound-but v a b c d e = both-true _ _ (both-true _ _ (both-true _ _ (both-true _ _ a b) c) d) e
+
+pub sound-is : (v : List ℕ) → soundButCounts v ≡ true → CountsTrue v → sound v ≡ true
+unfolding sound
+sound-is v a b = both-true _ _ a b
 
 -- an unused entry passes every test, and owns nothing
 pub placed-unused : (v e : List ℕ) → unused e ≡ true → placed v e ≡ true
@@ -79,3 +104,7 @@ placed-unused v e u = rw u
 pub content-unused : (v e : List ℕ) → unused e ≡ true → tailSound v e and recordsSound v e ≡ true
 unfolding tailSound recordsSound _and_ _or_
 content-unused v e u = rw u
+
+pub count-unused : (f : List ℕ → ℕ) (e : List ℕ) → unused e ≡ true → countIs f e ≡ true
+unfolding countIs _or_
+count-unused f e u = rw u

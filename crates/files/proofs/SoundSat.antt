@@ -27,7 +27,7 @@ use Rattle.ownership.specs.Blocks.{placed}
 use Rattle.ownership.specs.Owners.{owned, allOwned}
 use Rattle.ownership.proofs.BlockFacts.{owned-within}
 use Rattle.files.proofs.SoundFacts.{Facts}
-use Rattle.files.proofs.FileSame.{clear}
+use Rattle.files.proofs.Kept.FileSame.{clear}
 use Rattle.files.proofs.OwnersApart.{clear-by, clear-at, clear-flip, owned-member}
 
 module _ (v : List ℕ) (F : Facts v) where

@@ -2,10 +2,11 @@
 use mathlib.Core.List.{List, []}
 use mathlib.Core.Bool.{Bool}
 use Prim.Native.Nat.{ℕ}
+use lib.Dec.{eqb}
 use lib.ListN.{take, drop, getD, length}
 use Rattle.lists.specs.Lists.{if_then_else_, _or_, _and_, all}
 use Rattle.lists.specs.Parts.{zeros}
-use Rattle.volume.specs.Directory.{recordLength, contiguous, size, unused, entries, sound2}
+use Rattle.volume.specs.Directory.{recordLength, contiguous, size, recordCount, unused, entries, sound2}
 use Rattle.volume.specs.Volume.{sound1}
 use Rattle.records.specs.Streams.{laidOut}
 use Rattle.records.specs.Records.{recordsOf, wholeRecords}
@@ -44,10 +45,32 @@ recordsSound img e = unused e or contiguous e or wholeRecords (recordLength e) (
 unfoldable pub sound4 : List ℕ → Bool
 sound4 img = all (λ e. tailSound img e and recordsSound img e) (entries img)
 
--- RULES, Soundness: all five points
+-- RULES, Soundness: the five points, but for what point 4 says of record counts
+unfoldable pub soundButCounts : List ℕ → Bool
+soundButCounts img = sound1 img and sound2 img and sound3 img and sound4 img and sound5 img
+
+-- each sequential entry's record count is the number that is given for the entry
+unfoldable pub countIs : (List ℕ → ℕ) → List ℕ → Bool
+countIs f e = unused e or contiguous e or eqb (recordCount e) (f e)
+
+unfoldable pub countsAre : (List ℕ → ℕ) → List ℕ → Bool
+countsAre f img = all (countIs f) (entries img)
+
+-- RULES, Soundness: point 4, an entry's record count is the number of its stream's records
+unfoldable pub recordsIn : List ℕ → List ℕ → ℕ
+recordsIn img e = length (records img e)
+
 unfoldable pub sound : List ℕ → Bool
-sound img = sound1 img and sound2 img and sound3 img and sound4 img and sound5 img
+sound img = soundButCounts img and countsAre (recordsIn img) img
+
+-- RULES, Bring-up: soundness as it was before there were record counts, when those bytes were zero
+unfoldable pub noCount : List ℕ → ℕ
+noCount e = 0
+
+unfoldable pub soundBefore : List ℕ → Bool
+soundBefore img = soundButCounts img and countsAre noCount img
 
 unfoldable pub files-open : Unit {0}
-unfolding stored stream tail records recordAt extent tailSound recordsSound sound4 sound
+unfolding stored stream tail records recordAt extent tailSound recordsSound sound4 soundButCounts countIs countsAre recordsIn sound noCount
+    soundBefore
 files-open = tt

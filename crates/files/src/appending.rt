@@ -1,10 +1,11 @@
-// Append: what it needs is known before any byte changes; then the new sectors are taken, and the record is written after the stream.
+// Append: what it needs is known before any byte changes; then the new sectors are taken, the record is written after the stream, and the
+// entry's record count is one more.
 ghost use mathlib.Core.Path.{_≡_};
 ghost use Prim.Native.Nat.{_+_, _≤_, _<_, _*_};
 ghost use lib.ListN.{length};
 ghost use Rattle.numbers.specs.Numbers.{mostSectors};
 ghost use Rattle.volume.specs.Directory.{entryAt};
-ghost use Rattle.files.specs.Changes.{longer, needed, newPairs, appended};
+ghost use Rattle.files.specs.Changes.{longer, needed, newPairs, lengthened, appended};
 ghost use Rattle.files.specs.Code.Growing.{Adds, Grows, grownWith, Taking, RecordFits, Takes};
 ghost use Rattle.lists.specs.Parts.{over, inSectors, sector, putSector};
 ghost use Rattle.volume.specs.Sat.{free, lowest};
@@ -15,6 +16,7 @@ ghost use Rattle.records.specs.Code.Mapped.{writtenAt};
 use crate::map::load_map;
 use crate::map::stream_end;
 use crate::slot::record_length;
+use crate::slot::records_in;
 use crate::slot::start_of;
 use crate::taking::extend_all;
 use crate::taking::lowest_free;
@@ -28,6 +30,7 @@ use ownership::blocks::set_totals;
 use ownership::blocks::total;
 use records::encoding::encoded_length;
 use records::encoding::write_record;
+use volume::directory::put_count;
 use volume::locate::Layout;
 
 // How long the stream of the file in slot k is with the record r after it.
@@ -110,10 +113,10 @@ fn write_last(img: &mut [u8], s: usize, e: usize, l: usize, r: &[u8])
     write_record(img, &map[..n], e, l, r);
 }
 
-/// Appends the record r to the sequential file in slot k.
-pub fn append(img: &mut [u8], p: Layout, k: usize, r: &[u8])
+// The sequential file in slot k with the record r after its stream. Its entry stays.
+fn lengthen(img: &mut [u8], p: Layout, k: usize, r: &[u8])
     requires { ⌜ Takes (now img) p k (now r) ⌝ }
-    ensures { λ _. ⌜ now (img .exit) ≡ appended (entryAt (now (img .entry)) k) (now (r .entry)) (now (img .entry)) ⌝ }
+    ensures { λ _. ⌜ now (img .exit) ≡ lengthened (entryAt (now (img .entry)) k) (now (r .entry)) (now (img .entry)) ⌝ }
 {
     let n = needed_sectors(img, p, k, r);
     let e = longer_length(img, p, k, r);
@@ -125,4 +128,14 @@ pub fn append(img: &mut [u8], p: Layout, k: usize, r: &[u8])
     let sat = p.sat;
     take_sectors(img, sat, s, e, &fresh[..n]);
     write_last(img, s, end, l, r);
+}
+
+/// Appends the record r to the sequential file in slot k.
+pub fn append(img: &mut [u8], p: Layout, k: usize, r: &[u8])
+    requires { ⌜ Takes (now img) p k (now r) ⌝ }
+    ensures { λ _. ⌜ now (img .exit) ≡ appended k (now (r .entry)) (now (img .entry)) ⌝ }
+{
+    let n = records_in(img, p, k);
+    lengthen(img, p, k, r);
+    put_count(img, p, k, n + 1);
 }

@@ -1,21 +1,18 @@
-// A volume judged: what points 3 and 4 of soundness say of stream bytes, and the verdict as a whole.
-ghost use Rattle.lists.specs.Lists.{_and_, distinct};
+// A volume judged: what points 3 and 4 of soundness say of stream bytes and record counts, and the verdict as a whole.
+ghost use Rattle.lists.specs.Lists.{all, distinct};
 ghost use mathlib.Core.Path.{_≡_};
 ghost use mathlib.Core.Bool.{true, false};
-ghost use Rattle.records.specs.Code.Spots.{wholeOf};
 ghost use Prim.Native.Nat.{_*_, _≤_};
 ghost use lib.ListN.{length, drop};
-ghost use Rattle.lists.specs.Parts.{zeros, sector};
+ghost use Rattle.lists.specs.Parts.{zeros};
 ghost use Rattle.records.specs.Streams.{laidOut};
 ghost use Rattle.records.specs.Code.Mapped.{Mapped, streamIn};
-ghost use Rattle.records.specs.Records.{wholeRecords};
-ghost use Rattle.ownership.specs.Blocks.{streamLength, sound3};
-ghost use Rattle.files.specs.Code.Opens.{Opens, storedAt, streamAt};
-ghost use Rattle.volume.specs.Directory.{unused, contiguous, start};
-ghost use Rattle.files.specs.Files.{tailSound, recordsSound, sound4};
+ghost use Rattle.ownership.specs.Blocks.{sound3};
+ghost use Rattle.files.specs.Code.Opens.{Opens};
+ghost use Rattle.volume.specs.Directory.{unused, contiguous, start, entries};
 ghost use Rattle.volume.specs.Code.Located.{Located};
 ghost use Rattle.ownership.specs.Owners.{allOwned};
-ghost use Rattle.files.specs.Code.Verdict.{soundAt, checkedOf};
+ghost use Rattle.files.specs.Code.Verdict.{countsAs, contentOf, streamCount, fileSound, soundAt, checkedOf};
 use crate::map::load_map;
 use crate::map::stream_end;
 use numbers::MOST_SECTORS;
@@ -27,6 +24,7 @@ use records::record::walk;
 use records::stream::stream_byte;
 use volume::directory::contiguous;
 use volume::directory::entry_of;
+use volume::directory::record_count;
 use volume::directory::record_length;
 use volume::directory::start;
 use volume::directory::unused;
@@ -39,11 +37,12 @@ pub struct Checked {
     pub free: usize,
 }
 
-fn is_whole(c: Counted) -> bool
-    ensures { λ r. ⌜ r ≡ wholeOf c ⌝ }
+// Whole records, n of them.
+fn counts_as(c: Counted, n: usize) -> bool
+    ensures { λ r. ⌜ r ≡ countsAs n c ⌝ }
 {
     match c {
-        Counted::Whole(_) => true,
+        Counted::Whole(m) => n == m,
         Counted::Broken => false,
     }
 }
@@ -64,33 +63,33 @@ fn tail_zero(img: &[u8], map: &[u16], e: usize) -> bool
     true
 }
 
-fn content_sound(img: &[u8], map: &[u16], l: usize, e: usize) -> bool
+// The records of length l that the stream's first e bytes are, if nothing but zeros comes after them.
+fn content_count(img: &[u8], map: &[u16], l: usize, e: usize) -> Counted
     requires { ⌜ Mapped (now img) (now map) × (e ≤ 256 * length (now map)) ⌝ }
-    ensures { λ r. ⌜ r ≡ zeros (drop e (laidOut (now (img .entry)) (now (map .entry))))
-        and wholeRecords l (streamIn (now (img .entry)) (now (map .entry)) e) ⌝ }
+    ensures { λ r. ⌜ r ≡ contentOf (zeros (drop e (laidOut (now (img .entry)) (now (map .entry))))) l
+        (streamIn (now (img .entry)) (now (map .entry)) e) ⌝ }
 {
     if tail_zero(img, map, e) {
-        return is_whole(walk(img, map, l, e));
+        return walk(img, map, l, e);
     }
-    false
+    Counted::Broken
 }
 
-// The file of the access block in sector s, with records of length l.
-fn stream_sound(img: &[u8], s: usize, l: usize) -> bool
+/// The same of the file whose access block is sector s.
+pub fn stream_count(img: &[u8], s: usize, l: usize) -> Counted
     requires { ⌜ Opens (now img) s ⌝ }
-    ensures { λ r. ⌜ r ≡ zeros (drop (streamLength (sector s (now (img .entry)))) (storedAt (now (img .entry)) s))
-        and wholeRecords l (streamAt (now (img .entry)) s) ⌝ }
+    ensures { λ r. ⌜ r ≡ streamCount (now (img .entry)) s l ⌝ }
 {
     let mut map = [0u16; MOST_SECTORS];
     let n = load_map(img, s, &mut map);
     let e = stream_end(img, s);
-    content_sound(img, &map[..n], l, e)
+    content_count(img, &map[..n], l, e)
 }
 
-/// Are the tail and the records of an entry's file sound?
+/// Are the tail, the records and the record count of an entry's file sound?
 pub fn file_sound(img: &[u8], e: &[u8]) -> bool
     requires { ⌜ (length (now e) ≡ 32) × (unused (now e) ≡ false → contiguous (now e) ≡ false → Opens (now img) (start (now e))) ⌝ }
-    ensures { λ r. ⌜ r ≡ tailSound (now (img .entry)) (now (e .entry)) and recordsSound (now (img .entry)) (now (e .entry)) ⌝ }
+    ensures { λ r. ⌜ r ≡ fileSound (now (img .entry)) (now (e .entry)) ⌝ }
 {
     if unused(e) {
         return true;
@@ -98,13 +97,14 @@ pub fn file_sound(img: &[u8], e: &[u8]) -> bool
     if contiguous(e) {
         return true;
     }
-    stream_sound(img, start(e), record_length(e))
+    let c = stream_count(img, start(e), record_length(e));
+    counts_as(c, record_count(e))
 }
 
-/// Are all files' tails and records sound?
+/// Are all files' tails, records and record counts sound?
 pub fn contents_sound(img: &[u8], p: Layout) -> bool
     requires { ⌜ Located (now img) p × (sound3 (now img) ≡ true) × (distinct (allOwned (now img)) ≡ true) ⌝ }
-    ensures { λ r. ⌜ r ≡ sound4 (now (img .entry)) ⌝ }
+    ensures { λ r. ⌜ r ≡ all (fileSound (now (img .entry))) (entries (now (img .entry))) ⌝ }
 {
     let n = 8 * p.dirs;
     let mut k = 0;

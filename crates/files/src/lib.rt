@@ -3,6 +3,7 @@
 pub mod allocation;
 pub mod appending;
 pub mod check;
+pub mod counting;
 pub mod deletion;
 pub mod extent;
 pub mod map;

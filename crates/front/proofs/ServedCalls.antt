@@ -23,9 +23,9 @@ use Rattle.desk.specs.declared.Desk.{Desk}
 use Rattle.desk.specs.declared.Reply.{Reply}
 use Rattle.desk.specs.Desk.{State, state, emptyDesk}
 use Rattle.desk.specs.Answers.{Outcome, outcome, status, accepts, judged}
-use Rattle.desk.specs.Calls.{Call, Format, Check, rules, done, given, checked, step}
+use Rattle.desk.specs.Calls.{Call, Format, Check, BringUp, rules, done, given, checked, step}
 use Rattle.desk.proofs.Bounds.{check-few}
-use Rattle.front.specs.Front.{packedDesk, unpackedDesk, deskAfter, served, servedBy, serve, serveFormat, serveCheck, soundBit, verdict}
+use Rattle.front.specs.Front.{packedDesk, unpackedDesk, deskAfter, served, servedBy, serve, serveFormat, serveCheck, serveBringUp, soundBit, verdict}
 
 -- a reply, as its outcome leaves image and desk bytes
 reply-served : (r : Reply) (o : Outcome) (n : ℕ) (a : Answer) (img buf bs bs′ : List ℕ) → outcome (r .answer) img (r .desk) buf ≡ o → a ≡ r .answer → n ≡ status a
@@ -104,3 +104,11 @@ verdict-few img d = go (sound img) (check-few img)
 pub verdict-any : (img : List ℕ) (d : Desk) → verdict (step Check (state img d) .answer) ≡ serveCheck img
 unfolding serveCheck step rules done given judged ruled checked
 verdict-any img d = refl
+
+-- bring-up of the image beside an empty desk
+pub bring-up-done : (img bs : List ℕ) (r : Reply) (n : ℕ) (d : Desk) (img′ buf : List ℕ) → d ≡ emptyDesk → outcome (r .answer) img′ (r .desk) buf ≡ step BringUp (state img d)
+    → n ≡ status (r .answer) → served n img′ bs ≡ serveBringUp img bs
+unfolding serveBringUp
+bring-up-done img bs r n d img′ buf ed q en =
+    ap (λ (m : ℕ). served m img′ bs) en
+    ∙ ap (λ (x : Outcome). served (status (x .answer)) (x .image) bs) (q ∙ ap (λ (x : Desk). step BringUp (state img x)) ed)

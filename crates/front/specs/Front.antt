@@ -14,7 +14,7 @@ use Rattle.desk.specs.declared.Report.the-variants.{Moved, Checked}
 use Rattle.desk.specs.declared.Desk.{Desk}
 use Rattle.desk.specs.Desk.{state, emptyDesk}
 use Rattle.desk.specs.Answers.{Outcome, status, accepts}
-use Rattle.desk.specs.Calls.{Call, Format, Check, Rewind, Read, Write, Update, step}
+use Rattle.desk.specs.Calls.{Call, Format, Check, BringUp, Rewind, Read, Write, Update, step}
 use Rattle.front.specs.Blocks.{blockSize, functionOf, optionsOf, lunIn, numberIn, startIn, endIn, selectorIn, formattedIn, isTransfer}
 use Rattle.front.specs.Blocks.{supported, blockAfter}
 use Rattle.front.specs.Areas.{inside, partNamed, taskAfter, sharedAfter}
@@ -65,6 +65,10 @@ verdict (Refused why) = 0
 
 unfoldable pub serveCheck : List ℕ → ℕ
 serveCheck img = verdict (step Check (state img emptyDesk) .answer)
+
+-- RULES, The front: bring-up looks at no desk bytes, and leaves them. What it returns, and the image after it
+unfoldable pub serveBringUp : List ℕ → List ℕ → Served
+serveBringUp img bs = served (status (step BringUp (state img emptyDesk) .answer)) (step BringUp (state img emptyDesk) .image) bs
 
 -- What a request block comes with: the block, the image, the desk bytes, the task's own area and the shared segment
 pub record Lent : Type 0 where
@@ -126,5 +130,6 @@ front caller l =
     (carriedOut (step (asked caller l) (state (l .image) (unpackedDesk (l .desk)))) l)
 
 unfoldable pub front-open : Unit {0}
-unfolding packedDesk unpackedDesk deskAfter serve serveFormat serveCheck frontRules transferAsked asked turnedBack carriedOut front
+unfolding packedDesk unpackedDesk deskAfter serve serveFormat serveCheck serveBringUp frontRules transferAsked asked turnedBack carriedOut
+    front
 front-open = tt

@@ -2,10 +2,11 @@
 // include/twynarvel.h. Each returns its answer's number of the status table; check, which has no other answer than $00, returns its
 // verdict.
 ghost use mathlib.Core.Path.{_≡_};
+ghost use mathlib.Core.List.{[]};
 ghost use lib.Dec.{eqb};
 ghost use mathlib.Core.Bool.{not};
 ghost use Rattle.desk.specs.Calls.{Allocate, Assign, Close, Delete};
-ghost use Rattle.front.specs.Front.{served, serve, serveFormat, serveCheck, lent, ended, front};
+ghost use Rattle.front.specs.Front.{served, serve, serveFormat, serveCheck, serveBringUp, lent, ended, front};
 use crate::blocks;
 use crate::desks;
 use crate::requests;
@@ -62,6 +63,17 @@ pub extern "C" fn twynarvel_check(image: &[u8]) -> u32
     let r = d.check(image);
     let a = r.answer;
     verdict_of(a)
+}
+
+/// Gives a volume from before there were record counts its counts. Refuses $6F for any other image. It is lent no desk bytes.
+#[no_mangle]
+pub extern "C" fn twynarvel_bring_up(image: &mut [u8]) -> u32
+    ensures { λ r. ⌜ served r (now (image .exit)) [] ≡ serveBringUp (now (image .entry)) [] ⌝ }
+{
+    let d = Desk::empty();
+    let r = d.bring_up(image);
+    let a = r.answer;
+    status_of(a) as u32
 }
 
 /// Makes a file with this read-protect code. Refuses $6F for desk bytes that stand for no desk; then as the call does. The desk bytes stay.

@@ -11,7 +11,7 @@ use borrow.Author.Tests.{le-leb, lt-ltb, eq-eqb}
 use Rattle.numbers.specs.Numbers.{recordLimit}
 use Rattle.lists.specs.Lists.{_and_, _or_, if_then_else_, range, all, flat, distinct}
 use Rattle.lists.specs.Parts.{part, put, sector, blanks, sectors}
-use Rattle.lists.proofs.Tests.{both-true, or-second}
+use Rattle.lists.proofs.Tests.{both-true, or-first, or-second}
 use Rattle.lists.proofs.Lists.{all-ext}
 use Rattle.lists.proofs.Puts.{length-blanks, part-put-same}
 use Rattle.lists.proofs.AreBytes.{Bytes}
@@ -26,17 +26,17 @@ use Rattle.volume.proofs.BitsSet.{length-withBits, bytes-withBits}
 use Rattle.volume.proofs.EntryClashes.{namesDiffer-set}
 use Rattle.volume.proofs.RunFound.{sectors-part}
 use Rattle.volume.proofs.SatAccounts.{distinct-in, sat-marked}
-use Rattle.volume.proofs.EntryFields.{descriptor-length, entry-length, entry-contiguous, entry-used, entry-described, entry-start, entry-size, entry-valid}
+use Rattle.volume.proofs.EntryFields.{descriptor-length, entry-length, entry-contiguous, entry-used, entry-described, entry-start, entry-size, entry-count, entry-valid}
 use Rattle.lists.proofs.ByteLists.{bytes-put, bytes-putSector, bytes-blanks}
 use Rattle.volume.proofs.EntryBytes.{bytes-entry}
 use Rattle.records.specs.Streams.{laidOut}
 use Rattle.ownership.specs.Blocks.{block, streamLength, placed}
 use Rattle.ownership.specs.Owners.{logical, owned, allOwned}
 use Rattle.ownership.proofs.OwnedRuns.{owned-unused}
-use Rattle.files.specs.Files.{stored, stream, tail, records, tailSound, recordsSound, sound}
+use Rattle.files.specs.Files.{stored, stream, tail, records, tailSound, recordsSound, countIs, recordsIn, sound}
 use Rattle.files.specs.Changes.{taken, allocated}
-use Rattle.files.proofs.SoundFacts.{Facts, facts}
-use Rattle.files.proofs.FileSame.{clear}
+use Rattle.files.proofs.SoundFacts.{Facts, facts, counts-true}
+use Rattle.files.proofs.Kept.FileSame.{clear}
 use Rattle.files.proofs.OneFileChanged.{Changed, sectors-kept, ahead, behind, owned-was, entry-here, change-sound}
 use Rattle.files.proofs.OwnersApart.{clear-by, clear-at}
 use Rattle.files.proofs.EntryAndSatWritten.{tables, not-system}
@@ -200,6 +200,14 @@ module _ {v : List ℕ} {at : ℕ} {d : List ℕ} {k n l rc s : ℕ} (A : Alloca
         rw (entry-used (fields k d rc l s n), entry-contiguous (fields k d rc l s n), c, records-streamLength, records-stored, records-stream)
         (none-in.whole-none (recordLength (entry (fields k d rc l s n))))
 
+    records-counted : n ≡ 0 → countIs (recordsIn v′) e ≡ true
+    unfolding countIs recordsIn v′ e
+    records-counted z = or-second _ _ (eq-eqb _ _ (entry-count (fields k d rc l s n) long z ∙ sym (ap length records-none)))
+
+  run-counted : k ≡ 0 → countIs (recordsIn v′) e ≡ true
+  unfolding countIs e
+  run-counted c = or-first _ _ (or-second _ _ (entry-contiguous (fields k d rc l s n) ∙ eq-eqb k 0 c))
+
   entry-good : valid e ≡ true
   unfolding e
   entry-good = entry-valid (fields k d rc l s n) (A .well-described) (A .known-kind) (A .code-allowed) (by (sizes k n l (A .numbers)))
@@ -212,13 +220,14 @@ module _ {v : List ℕ} {at : ℕ} {d : List ℕ} {k n l rc s : ℕ} (A : Alloca
     owns-new : owned v′ e ≡ new
     is-placed : placed v′ e ≡ true
     has-content : tailSound v′ e and recordsSound v′ e ≡ true
+    has-count : countIs (recordsIn v′) e ≡ true
 
   made : Made
   made = by (sizes k n l (A .numbers))
     where
       by : Sized k n l → Made
-      by (run-of c a b q) = record { owns-new = run-owned c; is-placed = run-placed c; has-content = run-content c }
-      by (records-of c a b) = record { owns-new = records-owned c; is-placed = records-placed c; has-content = records-content c }
+      by (run-of c a b q) = record { owns-new = run-owned c; is-placed = run-placed c; has-content = run-content c; has-count = run-counted c }
+      by (records-of c a b) = record { owns-new = records-owned c; is-placed = records-placed c; has-content = records-content c; has-count = records-counted c a }
 
   -- what the file owns
   pub allocate-owned : owned (allocated at d k n l rc s v) (entry (fields k d rc l s n)) ≡ range s (taken k n)
@@ -260,8 +269,8 @@ module _ {v : List ℕ} {at : ℕ} {d : List ℕ} {k n l rc s : ℕ} (A : Alloca
   pub allocate-sound : sound (allocated at d k n l rc s v) ≡ true
   unfolding v′ e p b
   allocate-sound =
-      change-sound v (allocated at d k n l rc s v) at (entry (fields k d rc l s n)) (range s (taken k n) ++ tables v) allocate-changed F (or-second _ _ entry-good) names-differ
-      (made .is-placed) (made .has-content) (rw (made .owns-new) now-distinct) (rw (made .owns-new) now-sat)
+      change-sound v (allocated at d k n l rc s v) at (entry (fields k d rc l s n)) (range s (taken k n) ++ tables v) allocate-changed F (counts-true v (A .is-sound))
+      (or-second _ _ entry-good) names-differ (made .is-placed) (made .has-content) (made .has-count) (rw (made .owns-new) now-distinct) (rw (made .owns-new) now-sat)
 
   pub allocate-bytes : Bytes v → Bytes d → rc < 256 → Bytes (allocated at d k n l rc s v)
   unfolding allocated putEntry putSat new

@@ -12,11 +12,14 @@ use Rattle.lists.specs.Parts.{bytes2, blanks, inSectors, sectors}
 use Rattle.lists.specs.Lists.{flat, pieces, if_then_else_, all}
 use Rattle.lists.proofs.AreBytes.{Bytes}
 use Rattle.lists.proofs.Tests.{and-left, and-right}
-use Rattle.volume.specs.Volume.{satAt, dirs, sat}
-use Rattle.volume.specs.Directory.{entryAt, unused, contiguous, start, recordLength}
+use Rattle.volume.specs.Volume.{satAt, dirAt, dirs, sat, layoutOf}
+use Rattle.volume.specs.Directory.{entryAt, unused, contiguous, start, recordLength, recordCount, withCount, putEntry}
 use Rattle.volume.specs.Sat.{withBits, free, putSat}
-use Rattle.lists.proofs.ByteLists.{bytes-append, bytes-blanks, bytes-bytes2, bytes-nil, bytes-take, bytes-drop, bytes-filled, bytes-sector, bytes-putSector}
+use Rattle.lists.proofs.ByteLists.{bytes-append, bytes-blanks, bytes-bytes2, bytes-nil, bytes-take, bytes-drop, bytes-filled, bytes-part, bytes-put, bytes-sector, bytes-putSector}
 use Rattle.volume.proofs.Bits.{length-satOf}
+use Rattle.volume.proofs.EntryCounted.{bytes-withCount}
+use Rattle.volume.proofs.Located.{located-sound}
+use Rattle.volume.proofs.Slots.{entry-part}
 use Rattle.volume.proofs.BitsSet.{bytes-withBits}
 use Rattle.volume.proofs.SatChanged.{bytes-satOf}
 use Rattle.records.specs.Records.{allowed, encoded}
@@ -25,9 +28,12 @@ use Rattle.records.proofs.LaidStream.{inside}
 use Rattle.ownership.specs.Blocks.{segStart, segLength, extended, extendedBy, segmentSound, blockOf, block, segments, pairs, blockSound}
 use Rattle.ownership.specs.Owners.{logical, allOwned}
 use Rattle.ownership.proofs.Segments.{sound-extended}
-use Rattle.files.specs.Files.{stream}
-use Rattle.files.specs.Changes.{longer, needed, newSectors, newPairs, appended}
-use Rattle.files.proofs.SoundFacts.{Facts}
+use Rattle.files.specs.Files.{stream, recordsIn}
+use Rattle.files.specs.Changes.{longer, needed, newSectors, newPairs, lengthened, oneMore, appended}
+use Rattle.files.proofs.Bounds.{records-short}
+use Rattle.files.proofs.map.OpenBlock.{opens-at}
+use Rattle.files.proofs.slot.SlotInUse.{count-right}
+use Rattle.files.proofs.SoundFacts.{Facts, CountsTrue}
 use Rattle.files.proofs.FileBytes.{bytes-stream, bytes-laid}
 use Rattle.files.proofs.SequentialFile.{block-sound}
 use Rattle.files.proofs.taking.LowestFree.{below-few}
@@ -138,9 +144,26 @@ module _ (v : List ℕ) (F : Facts v) (k : ℕ) (hk : k < 8 * dirs v) (used : un
         bytes-withBits 1 (sat v) (newSectors v e r) (omega arith) (rw (F .sat-right) (bytes-satOf (sectors v) (allOwned v)))
         (ap length (F .sat-right) ∙ length-satOf (sectors v) (allOwned v)) (inside-table (sectors v) (newSectors v e r) (F .high) (new-inside v F k hk used seq r))
 
-    pub bytes-appended : Bytes (appended (entryAt v k) r v)
-    unfolding appended putSat
-    bytes-appended =
+    bytes-lengthened : Bytes (lengthened (entryAt v k) r v)
+    unfolding lengthened putSat
+    bytes-lengthened =
         bytes-putSector (start e) (grownBlock v e r) _ bytes-grown
         (bytes-putSector (satAt v) (withBits 1 (sat v) (newSectors v e r)) _ bytes-sat
         (bytes-laid (logical v e ++ newSectors v e r) (longer v e r) v bytes-longer bytes))
+
+    bytes-entry : Bytes e
+    bytes-entry = rw (entry-part v k hk) (bytes-part (256 * dirAt v + 32 * k) 32 v bytes)
+
+    count-few : CountsTrue v → recordCount e + 1 < 4294967296
+    unfolding recordsIn layoutOf
+    count-few t =
+        omega (
+          arith,
+          count-right v F (recordsIn v) t k hk used seq,
+          records-short v e used seq (opens-at v (layoutOf v) (located-sound v (F .one)) (F .three) (F .none-twice) k hk used seq),
+        )
+
+    pub bytes-appended : CountsTrue v → Bytes (appended k r v)
+    unfolding appended putEntry oneMore
+    bytes-appended t =
+        bytes-put (256 * dirAt v + 32 * k) (withCount (recordCount e + 1) e) _ (bytes-withCount (recordCount e + 1) e (count-few t) bytes-entry) bytes-lengthened

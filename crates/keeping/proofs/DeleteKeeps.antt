@@ -23,11 +23,11 @@ use Rattle.volume.proofs.SatAccounts.{sat-cleared}
 use Rattle.lists.proofs.ByteLists.{bytes-put, bytes-putSector, bytes-blanks}
 use Rattle.ownership.specs.Owners.{owned, allOwned}
 use Rattle.ownership.proofs.OwnedRuns.{owned-unused}
-use Rattle.files.specs.Files.{sound}
+use Rattle.files.specs.Files.{recordsIn, sound}
 use Rattle.files.specs.Changes.{deleted}
-use Rattle.files.proofs.FileSame.{clear}
+use Rattle.files.proofs.Kept.FileSame.{clear}
 use Rattle.files.proofs.OwnersApart.{clear-by}
-use Rattle.files.proofs.SoundFacts.{Facts, facts, placed-unused, content-unused}
+use Rattle.files.proofs.SoundFacts.{Facts, facts, counts-true, placed-unused, content-unused, count-unused}
 use Rattle.files.proofs.OneFileChanged.{Changed, ahead, behind, owned-was, entry-here, change-sound}
 use Rattle.files.proofs.EntryAndSatWritten.{tables}
 use Rattle.files.proofs.SoundSat.{length-sat, bytes-sat, below-table, slot-below}
@@ -100,11 +100,12 @@ module _ (v : List ℕ) (k : ℕ) (s : sound v ≡ true) (hk : k < 8 * dirs v) w
   unfolding p b
   delete-sound =
       let none : owned (deleted k v) (blanks 32) ≡ [] = owned-unused (deleted k v) (blanks 32) (zeros-blanks 32) in
-      change-sound v (deleted k v) k (blanks 32) (tables v) delete-changed F (or-first _ _ (zeros-blanks 32))
+      change-sound v (deleted k v) k (blanks 32) (tables v) delete-changed F (counts-true v s) (or-first _ _ (zeros-blanks 32))
       (namesDiffer-set (entries v) k (blanks 32) (all-yes _ (entries v) (λ e. unused-before (blanks 32) e (zeros-blanks 32)))
       (all-yes _ (entries v) (λ e. unused-after e (blanks 32) (zeros-blanks 32))) (F .names))
       (placed-unused (deleted k v) (blanks 32) (zeros-blanks 32))
       (content-unused (deleted k v) (blanks 32) (zeros-blanks 32))
+      (count-unused (recordsIn (deleted k v)) (blanks 32) (zeros-blanks 32))
       (rw none (distinct-out p gone b was-distinct))
       (rw none (delete-sat ∙ bits-are))
 

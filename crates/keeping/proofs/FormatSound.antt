@@ -30,8 +30,8 @@ use Rattle.lists.proofs.ByteLists.{bytes-append, bytes-blanks, bytes-bytes2, by
 use Rattle.ownership.specs.Blocks.{placed, sound3}
 use Rattle.ownership.specs.Owners.{owned, allOwned, sound5}
 use Rattle.ownership.proofs.OwnedRuns.{owned-unused}
-use Rattle.files.specs.Files.{tailSound, recordsSound, sound4, sound}
-use Rattle.files.proofs.SoundFacts.{sound-is, placed-unused, content-unused}
+use Rattle.files.specs.Files.{tailSound, recordsSound, sound4, countIs, countsAre, recordsIn, sound}
+use Rattle.files.proofs.SoundFacts.{CountsTrue, sound-but, sound-is, placed-unused, content-unused, count-unused}
 
 -- what the tests of a volume ID and of the numbers say
 record Numbers (id : List ℕ) (d t : ℕ) : Type 0 where
@@ -191,6 +191,10 @@ module _ (id : List ℕ) (d t : ℕ) (hid : volumeId id ≡ true) (hr : inRange 
   unfolding sound4
   point-4 = rw entries-img (all-replicate (λ e. tailSound img e and recordsSound img e) (8 * d) (blanks 32) (content-unused img (blanks 32) (zeros-blanks 32)))
 
+  no-counts : CountsTrue img
+  unfolding countsAre
+  no-counts = rw entries-img (all-replicate (countIs (recordsIn img)) (8 * d) (blanks 32) (count-unused (recordsIn img) (blanks 32) (zeros-blanks 32)))
+
   owned-img : allOwned img ≡ systemOf (freshLayout t d)
   unfolding allOwned
   owned-img = rw (entries-img, flat-replicate (owned img) (8 * d) (blanks 32) (owned-unused img (blanks 32) (zeros-blanks 32)), system-img, append-nil)
@@ -209,7 +213,7 @@ module _ (id : List ℕ) (d t : ℕ) (hid : volumeId id ≡ true) (hr : inRange 
   point-5 = rw (owned-img, sat-img, sectors-img, distinct-img) (both-true true _ refl (same-refl (satOf t (systemOf (freshLayout t d)))))
 
   pub format-sound : sound (formatted id d t) ≡ true
-  format-sound = rw img-is (sound-is img point-1 point-2 point-3 point-4 point-5)
+  format-sound = rw img-is (sound-is img (sound-but img point-1 point-2 point-3 point-4 point-5) no-counts)
 
   -- its sectors, and those of the system
   pub format-sectors : sectors (formatted id d t) ≡ t

@@ -27,15 +27,14 @@ use Rattle.ownership.specs.Blocks.{block, total, streamLength}
 use Rattle.ownership.specs.Owners.{owned, allOwned}
 use Rattle.ownership.proofs.OwnedRuns.{owned-unused, owned-run}
 use Rattle.ownership.proofs.BlockFacts.{allOwned-within}
-use Rattle.files.specs.Files.{sound}
-use Rattle.files.specs.Changes.{longer, needed, newSectors, newPairs, appended}
+use Rattle.files.specs.Changes.{longer, needed, newSectors, newPairs, oneMore, appended}
 use Rattle.files.proofs.SoundFacts.{Facts, facts}
 use Rattle.files.proofs.OneFileChanged.{Changed, sectors-kept, owned-was, owned-now}
 use Rattle.files.proofs.SequentialFile.{owned-is, length-logical, length-stream}
 use Rattle.files.proofs.appending.GrownBlock.{length-new}
 use Rattle.keeping.proofs.FreedSectors.{free-is}
 use Rattle.keeping.proofs.FormatSound.{format-sound, format-sectors, format-owned}
-use Rattle.keeping.proofs.AppendKeeps.{appended-changed, appended-sound, appended-owned}
+use Rattle.keeping.proofs.AppendKeeps.{appended-changed, appended-facts, appended-owned}
 
 -- every sector is free or owned
 pub free-and-owned : (v : List ℕ) → Facts v → free v + length (allOwned v) ≡ sectors v
@@ -51,13 +50,13 @@ free-and-owned v F =
     ∙ outside (range 0 (sectors v)) (allOwned v) (distinct-range 0 (sectors v)) (F .none-twice) all-in ∙ length-range 0 (sectors v)
 
 -- one file changed: what it owned and owns settles the count
-pub changed-free : (v v′ : List ℕ) (k : ℕ) (e′ ws : List ℕ) → Changed v v′ k e′ ws → Facts v → sound v′ ≡ true
+pub changed-free : (v v′ : List ℕ) (k : ℕ) (e′ ws : List ℕ) → Changed v v′ k e′ ws → Facts v → Facts v′
     → free v′ + length (owned v′ e′) ≡ free v + length (owned v (entryAt v k))
-changed-free v v′ k e′ ws C F s =
+changed-free v v′ k e′ ws C F G =
     omega (
       arith,
       free-and-owned v F,
-      free-and-owned v′ (facts v′ s),
+      free-and-owned v′ G,
       sectors-kept v v′ k e′ ws C,
       simp length-append at (ap length (owned-was v v′ k e′ ws C)),
       simp length-append at (ap length (owned-now v v′ k e′ ws C)),
@@ -91,15 +90,15 @@ format-free id d t hid hr =
 -- after an append: the sectors that it needed are gone
 pub appended-free : (v : List ℕ) (F : Facts v) (k : ℕ) (hk : k < 8 * dirs v) (used : unused (entryAt v k) ≡ false) (seq : contiguous (entryAt v k) ≡ false)
     (r : List ℕ) (fine : allowed (recordLength (entryAt v k)) r ≡ true) (enough : needed v (entryAt v k) r ≤ free v)
-    (few : length (newPairs v (entryAt v k) r) ≤ mostSegments) → free (appended (entryAt v k) r v) + needed v (entryAt v k) r ≡ free v
+    (few : length (newPairs v (entryAt v k) r) ≤ mostSegments) → free (appended k r v) + needed v (entryAt v k) r ≡ free v
 appended-free v F k hk used seq r fine enough few =
     let e : List ℕ = entryAt v k in
-    let now : length (owned (appended e r v) e) ≡ length (owned v e) + needed v e r =
+    let now : length (owned (appended k r v) (oneMore e)) ≡ length (owned v e) + needed v e r =
     ap length (appended-owned v F k hk used seq r fine enough few) ∙ length-append (owned v e) (newSectors v e r)
     ∙ ap (λ (n : ℕ). length (owned v e) + n) (length-new v F k hk used seq r enough) in
     omega (
       arith,
-      changed-free v (appended e r v) k e _ (appended-changed v F k hk used seq r fine enough few) F (appended-sound v F k hk used seq r fine enough few),
+      changed-free v (appended k r v) k (oneMore e) _ (appended-changed v F k hk used seq r fine enough few) F (appended-facts v F k hk used seq r fine enough few),
     )
 
 -- the sectors that an append needs, in numbers

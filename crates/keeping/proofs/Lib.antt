@@ -1,12 +1,12 @@
 pub mod AllocateKeeps
 pub mod AppendBytes
 pub mod AppendKeeps
+pub mod BringUpKeeps
 pub mod DeleteKeeps
 pub mod FormatSound
 pub mod FreeCounts
 pub mod FreedSectors
 pub mod NamesAfter
 pub mod OverwriteKeeps
-pub mod RecordsSame
 pub mod SlotFound
 pub mod SlotWritten

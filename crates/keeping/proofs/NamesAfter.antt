@@ -22,7 +22,7 @@ use Rattle.volume.proofs.Slots.{length-entries}
 use Rattle.files.specs.Files.{sound}
 use Rattle.files.specs.Changes.{allocated, deleted}
 use Rattle.files.proofs.SoundFacts.{facts}
-use Rattle.files.proofs.UsedSlots.{named-used}
+use Rattle.files.proofs.slot.UsedSlots.{named-used}
 use Rattle.files.proofs.allocation.Allocatable.{Allocatable}
 use Rattle.keeping.proofs.DeleteKeeps.{delete-changed}
 use Rattle.keeping.proofs.AllocateKeeps.{allocate-changed}

@@ -9,6 +9,7 @@ use native.Mathlib.Decide.{decLt, decLe}
 use native.Mathlib.Omega.{arith}
 use lib.ListN.{length}
 use borrow.Author.Tests.{leb-true}
+use Rattle.lists.proofs.Tests.{or-first, or-second}
 use Rattle.lists.specs.Lists.{range, _and_, _or_}
 use Rattle.lists.specs.Parts.{part, put, sectors}
 use Rattle.lists.proofs.Keeps.{range-out, Keeps, keeps-put}
@@ -22,9 +23,9 @@ use Rattle.lists.proofs.ByteLists.{bytes-put}
 use Rattle.ownership.specs.Blocks.{placed}
 use Rattle.ownership.specs.Owners.{logical, owned}
 use Rattle.files.specs.Changes.{overwritten, sectorsAt}
-use Rattle.files.specs.Files.{tailSound, recordsSound, sound}
+use Rattle.files.specs.Files.{tailSound, recordsSound, countIs, recordsIn, sound}
 use Rattle.files.proofs.OwnSectorsWritten.{Part, slot-placed, changed-within, sound-within, free-within, sectors-within}
-use Rattle.files.proofs.SoundFacts.{Facts}
+use Rattle.files.proofs.SoundFacts.{Facts, CountsTrue}
 use Rattle.files.proofs.OneFileChanged.{Changed, entry-here}
 
 -- a range inside a range
@@ -94,9 +95,13 @@ module _ (v : List ℕ) (F : Facts v) (k : ℕ) (hk : k < 8 * dirs v) (used : un
   unfolding tailSound recordsSound _and_ _or_ e
   content-is = rw (used, runs)
 
-  pub overwritten-sound : sound (overwritten (entryAt v k) i bs v) ≡ true
+  count-is : countIs (recordsIn v′) e ≡ true
+  unfolding countIs e
+  count-is = or-first _ _ (or-second _ _ runs)
+
+  pub overwritten-sound : CountsTrue v → sound (overwritten (entryAt v k) i bs v) ≡ true
   unfolding ds e v′
-  overwritten-sound = sound-within v F k hk ds v′ overwritten-keeps mine (owned-is v′ ∙ sym (owned-is v)) placed-is content-is
+  overwritten-sound t = sound-within v F k hk ds v′ overwritten-keeps mine t (owned-is v′ ∙ sym (owned-is v)) placed-is content-is count-is
 
   -- the sectors written are read back, the file's others are as they were
   pub overwritten-read : sectorsAt (entryAt v k) i n (overwritten (entryAt v k) i bs v) ≡ bs

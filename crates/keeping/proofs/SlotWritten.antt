@@ -23,7 +23,7 @@ use Rattle.ownership.specs.Blocks.{blockSound, blocks-open, sectorsOf, streamLe
 use Rattle.ownership.specs.Owners.{owned}
 use Rattle.files.proofs.OneFileChanged.{Changed}
 use Rattle.files.proofs.SoundFacts.{Facts}
-use Rattle.files.proofs.FileSame.{clear}
+use Rattle.files.proofs.Kept.FileSame.{clear}
 use Rattle.files.proofs.OwnersApart.{clear-by, clear-at, clear-flip, clear-join, sat-not-dir, zero-not, last-not}
 use Rattle.files.proofs.EntryAndSatWritten.{in-zero, in-last, in-dir, tables, not-tables, dir-not-sat, owned-not-tables, one-among}
 

@@ -2,8 +2,9 @@
 use mathlib.Core.List.{[], List, _∷_, _++_}
 use Prim.Native.Nat.{ℕ, zero, suc, _<_, _+_, _/_, _%_, _-_, _*_}
 use native.Mathlib.Omega.{arith}
-use lib.ListN.{take, drop, length}
+use lib.ListN.{take, drop, length, getD}
 use lib.Seq.{getD-drop}
+use Rattle.lists.specs.Lists.{flat}
 use Rattle.lists.specs.Parts.{blanks, bytes2, filled, part, sector, put, putSector}
 use Rattle.lists.proofs.AreBytes.{Bytes}
 use Rattle.lists.proofs.Blanks.{getD-blanks}
@@ -52,3 +53,9 @@ bytes-put i b l hb hl = bytes-append (take i l) (b ++ drop (i + length b) l) (by
 pub bytes-putSector : (s : ℕ) (b l : List ℕ) → Bytes b → Bytes l → Bytes (putSector s b l)
 unfolding putSector
 bytes-putSector s b l hb hl = bytes-put (256 * s) b l hb hl
+
+-- bytes that f makes of the elements of a list, one after the other
+pub bytes-flat : {A : Type 0} (f : A → List ℕ) (xs : List A) (d : A) → ((i : ℕ) → i < length xs → Bytes (f (getD xs i d))) → Bytes (flat f xs)
+unfolding flat
+bytes-flat f [] d h = bytes-nil
+bytes-flat f (x ∷ xs) d h = bytes-append (f x) (flat f xs) (h 0 (omega arith)) (bytes-flat f xs d (λ i l. h (suc i) (omega arith)))

@@ -1,3 +1,4 @@
+pub mod Alike
 pub mod AreBytes
 pub mod Blanks
 pub mod Bools

@@ -1,12 +1,13 @@
--- Pieces of one length: the piece at a place, and a piece written; a part of a part, and a byte of sectors that are joined.
+-- Pieces of one length: the piece at a place, a piece written, and all made from others; a part of a part, and a byte of sectors that are
+-- joined.
 use mathlib.Core.Path.{_≡_, refl, sym, ap, _∙_}
-use mathlib.Core.List.{List, [], _∷_, _++_}
+use mathlib.Core.List.{List, [], _∷_, _++_, map}
 use Prim.Native.Nat.{ℕ, zero, suc, _+_, _*_, _<_, _≤_, _-_, _/_, _%_}
-use native.Mathlib.Nat.{not-suc-le-zero, mul-zero, mul-suc, sub-zero, suc-sub-suc, zero-sub}
+use native.Mathlib.Nat.{not-suc-le-zero, zero-add, suc-add, mul-zero, mul-suc, sub-zero, suc-sub-suc, zero-sub}
 use native.Mathlib.Omega.{arith}
 use native.Mathlib.Decide.{decLt, ℕ-discrete}
-use lib.ListN.{getD, take, drop, set, length, length-take, length-drop, length-set, List·getD-append}
-use lib.Seq.{drop-drop, getD-append-add, take-nil, drop-append-le, take-append-add, take-take, ext-getD, getD-set-same, getD-set-other}
+use lib.ListN.{getD, take, drop, set, length, length-take, length-drop, length-set, length-append, List·getD-append}
+use lib.Seq.{drop-drop, getD-append-add, take-nil, take-at, drop-at, drop-append-le, take-append-add, take-take, ext-getD, getD-set-same, getD-set-other}
 use Rattle.lists.specs.Parts.{part, put}
 use Rattle.lists.specs.Lists.{pieces, flat}
 use Rattle.lists.proofs.Puts.{part-put-same, part-put-before, part-put-after}
@@ -87,3 +88,31 @@ pieces-put n k e l he hk fits =
                 part-put-after (32 * k) e l (omega arith) (32 * i) 32 (omega arith)
           ])
     ])
+
+-- lists of w bytes that f makes of others, one after the other, are w bytes each; and cut again they are the lists
+module _ {A : Type 0} (w : ℕ) (f : A → List ℕ) (d : A) where
+  pub length-flat : (xs : List A) → ((i : ℕ) → i < length xs → length (f (getD xs i d)) ≡ w) → length (flat f xs) ≡ w * length xs
+  unfolding flat
+  length-flat [] h = sym (mul-zero w)
+  length-flat (x ∷ xs) h =
+      let m : w * suc (length xs) ≡ w + w * length xs = rw mul-suc (omega arith) in
+      simp length-append (omega (arith, m, h 0 (omega arith), length-flat xs (λ i l. h (suc i) (omega arith))))
+
+  pub pieces-flat : (xs : List A) → ((i : ℕ) → i < length xs → length (f (getD xs i d)) ≡ w) → pieces (length xs) w (flat f xs) ≡ map f xs
+  unfolding flat pieces
+  pieces-flat [] h = refl
+  pieces-flat (x ∷ xs) h =
+      rw (take-at (f x) (flat f xs) w (h 0 (omega arith)), drop-at (f x) (flat f xs) w (h 0 (omega arith)), pieces-flat xs (λ i l. h (suc i) (omega arith)))
+
+-- what was cut into pieces, joined again
+pub flat-pieces : (n w : ℕ) (l : List ℕ) → flat (λ x. x) (pieces n w l) ≡ take (w * n) l
+unfolding flat pieces
+flat-pieces zero w l = sym (ap (λ (m : ℕ). take m l) (mul-zero w))
+flat-pieces (suc n) w l =
+    ap (λ (x : List ℕ). take w l ++ x) (flat-pieces n w (drop w l)) ∙ sym (take-drop-more w (w * n) l)
+    ∙ ap (λ (m : ℕ). take m l) (let z : w + w * n ≡ w * suc n = rw mul-suc (omega arith) in z)
+  where
+    take-drop-more : (a b : ℕ) (l : List ℕ) → take (a + b) l ≡ take a l ++ take b (drop a l)
+    take-drop-more zero b l = rw zero-add
+    take-drop-more (suc a) b [] = take-nil (suc a + b) ∙ sym (take-nil b)
+    take-drop-more (suc a) b (x ∷ l) = rw suc-add (ap (λ (r : List ℕ). x ∷ r) (take-drop-more a b l))

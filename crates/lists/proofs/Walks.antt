@@ -62,6 +62,17 @@ unfolding all _and_
 all-yes p [] h = refl
 all-yes p (x ∷ xs) h = rw (h x) (all-yes p xs h)
 
+-- two tests of all are one test of all
+pub all-both : {A : Type 0} (p q : A → Bool) (xs : List A) → all p xs and all q xs ≡ all (λ x. p x and q x) xs
+unfolding all _and_
+all-both p q [] = refl
+all-both p q (x ∷ xs) = both (p x) (q x) (all p xs) (all q xs) ∙ ap (λ (b : Bool). (p x and q x) and b) (all-both p q xs)
+  where
+    both : (a b c e : Bool) → (a and c) and (b and e) ≡ (a and b) and (c and e)
+    both true true c e = refl
+    both true false c e = and-false c
+    both false b c e = refl
+
 pub copy-more : (part src : List ℕ) (i : ℕ) → i < length part → i < length src → set (take i src ++ drop i part) i (getD src i 0) ≡ take (i + 1) src ++ drop (i + 1) part
 copy-more part src i h g =
     ap (λ (n : ℕ). set (take i src ++ drop n part) n (getD src i 0)) (sym (zero-add i))

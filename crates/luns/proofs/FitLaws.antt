@@ -2,29 +2,26 @@
 use mathlib.Core.Path.{_≡_, refl, sym, _∙_}
 use mathlib.Core.Bool.{Bool, true, false, not}
 use mathlib.Core.List.{List, [], _∷_}
-use Prim.Native.Nat.{ℕ, _*_, _≤_, _<_, _+_}
-use native.Mathlib.Omega.{arith}
-use lib.ListN.{length, List·getD-eq-default, getD, set}
+use Prim.Native.Nat.{ℕ, _*_, _≤_, _<_}
+use lib.ListN.{length, List·getD-eq-default}
 use lib.Dec.{leb}
-use lib.Seq.{getD-set-same, getD-set-other}
-use borrow.Author.Tests.{not-true, eqb-true, eq-eqb}
-use borrow.Author.Count.{below-more}
+use borrow.Author.Tests.{not-true, eq-eqb}
 use Rattle.numbers.specs.Numbers.{lastUser}
 use Rattle.lists.specs.Lists.{_and_, _or_, all}
-use Rattle.lists.proofs.Tests.{and-left, and-right}
+use Rattle.lists.proofs.Tests.{and-left}
 use Rattle.lists.proofs.Bools.{and-false}
 use Rattle.volume.specs.Volume.{dirs}
 use Rattle.volume.specs.Directory.{entries, entryAt, unused, contiguous, owner}
 use Rattle.volume.proofs.Slots.{length-entries}
 use Rattle.files.specs.Files.{extent}
 use Rattle.files.specs.Rights.{hasRight}
-use Rattle.files.proofs.UsedSlots.{used-slot}
+use Rattle.files.proofs.slot.UsedSlots.{used-slot}
 use Rattle.luns.specs.declared.Place.{Place}
 use Rattle.luns.specs.declared.Place.the-variants.{Fresh, At}
 use Rattle.luns.specs.declared.Lun.{Lun}
 use Rattle.luns.specs.Modes.{writes}
-use Rattle.luns.specs.Luns.{lunFits, placeExists, readsByRight, holdsSlot, freeLun, allAgree, fits}
-use Rattle.luns.specs.Code.Fits.{seated, stands, placeWithin, reach}
+use Rattle.luns.specs.Luns.{lunFits, placeExists, readsByRight, allAgree, fits}
+use Rattle.luns.specs.Code.Fits.{seated, stands, placeWithin}
 
 or-and : (n a b : Bool) → n or (a and b) ≡ (n or a) and (n or b)
 unfolding _and_ _or_
@@ -75,20 +72,12 @@ module _ (img : List ℕ) where
     unfolding stands _or_
     free-stands e = rw e
 
-    pub free-reach : u .held ≡ false → 0 ≡ reach img u
-    unfolding reach
-    free-reach e = rw e
-
     module _ (h : u .held ≡ true) where
-      pub held-reach : reach img u ≡ extent img (entryAt img (u .slot))
-      unfolding reach
-      held-reach = rw h
-
-      pub held-stands : placeWithin (contiguous (entryAt img (u .slot))) (reach img u) (u .place) ≡ stands img u
+      pub held-stands : placeWithin (contiguous (entryAt img (u .slot))) (extent img (entryAt img (u .slot))) (u .place) ≡ stands img u
       unfolding stands _or_
       held-stands =
           let z : placeExists img (entryAt img (u .slot)) (u .place) ≡ stands img u = rw h in
-          rw held-reach (sym (place-exists (entryAt img (u .slot)) (u .place)) ∙ z)
+          sym (place-exists (entryAt img (u .slot)) (u .place)) ∙ z
 
       pub held-seated : (not (unused (entryAt img (u .slot))) and leb (u .user) lastUser
           and (not (writes (u .mode)) or hasRight (u .user) (owner (entryAt img (u .slot)))) and readsByRight img u) ≡ seated img u
@@ -105,23 +94,6 @@ module _ (img : List ℕ) where
 
       pub held-low : seated img u ≡ true → u .slot < 8 * dirs img
       held-low e = used-slot img (u .slot) (held-used e)
-
--- two LUNs of one slot reach as far
-pub same-reach : (img : List ℕ) (u v : Lun) → u .held ≡ true → holdsSlot (u .slot) v ≡ true → reach img v ≡ reach img u
-unfolding holdsSlot
-same-reach img u v h e =
-    let held : v .held ≡ true = and-left _ _ e in
-    let same : v .slot ≡ u .slot = eqb-true _ _ (and-right _ _ e) in
-    held-reach img v held ∙ rw same (sym (held-reach img u h))
-
--- one LUN more whose reach is known
-pub known-more : (img : List ℕ) (us : List Lun) (known : List ℕ) (j n : ℕ) → j < length known
-    → ((k : ℕ) → k < j → getD known k 0 ≡ reach img (getD us k freeLun)) → n ≡ reach img (getD us j freeLun)
-    → (k : ℕ) → k < j + 1 → getD (set known j n) k 0 ≡ reach img (getD us k freeLun)
-known-more img us known j n h before here =
-    below-more (λ k. getD (set known j n) k 0 ≡ reach img (getD us k freeLun)) j
-    (λ k l. getD-set-other known j k n 0 (λ q. omega arith) ∙ before k l)
-    (getD-set-same known j n 0 h ∙ here)
 
 module _ (img : List ℕ) (us : List Lun) (sixteen : length us ≡ 16) where
   pub fits-parts : fits img us ≡ all (seated img) us and all (stands img) us and allAgree us

@@ -13,9 +13,11 @@ use Rattle.lists.proofs.Tests.{both-true, and-left, and-right, or-cases, or-fir
 use Rattle.lists.proofs.JoinedLists.{all-set}
 use Rattle.lists.proofs.Lists.{all-at, all-ext}
 use Rattle.lists.proofs.Blanks.{all-replicate}
-use Rattle.volume.specs.Directory.{entryAt, unused, owner, contiguous}
+use Rattle.volume.specs.Directory.{entryAt, unused, owner, contiguous, SameButCount}
+use Rattle.volume.proofs.EntryCounted.{contiguous-is, owner-is}
 use Rattle.files.specs.Rights.{hasRight, mayRead}
 use Rattle.files.specs.Files.{extent}
+use Rattle.files.proofs.Kept.EntryAlike.{extent-alike}
 use Rattle.luns.specs.declared.Place.{Place}
 use Rattle.luns.specs.declared.Lun.{Lun}
 use Rattle.luns.specs.Luns.{movedTo, agree, allAgree, placeExists, readsByRight, lunFits, freeLun, fits}
@@ -201,10 +203,20 @@ fitting-free v = record {
   agreed = agree-all-free lunCount;
 }
 
--- where each held LUN's file has the same entry, and is as long or longer, they still fit; c may say more of the LUNs
+-- entries that are the same but for the count: who may read the file, and which places exist in it
+pub may-alike : (e d : List ℕ) → SameButCount e d → (caller offered : ℕ) → mayRead caller offered d ≡ mayRead caller offered e
+unfolding mayRead
+may-alike e d s caller offered = rw (s .code-same, owner-is e d s)
+
+pub place-alike : (v e d : List ℕ) → SameButCount e d → (p : Place) → placeExists v d p ≡ placeExists v e p
+unfolding placeExists
+place-alike v e d s Fresh = refl
+place-alike v e d s (At i n) = rw (contiguous-is e d s, extent-alike e d s v)
+
+-- where each held LUN's file has the same entry but for the count, and is as long or longer, they still fit; c may say more of the LUNs
 pub fitting-kept : (v v′ : List ℕ) (us : List Lun) (c : Lun → Bool) → all c us ≡ true
     → ((u : Lun) → u .held ≡ true → c u ≡ true → Fitted v u
-    → (entryAt v′ (u .slot) ≡ entryAt v (u .slot)) × (extent v (entryAt v (u .slot)) ≤ extent v′ (entryAt v (u .slot))))
+    → SameButCount (entryAt v (u .slot)) (entryAt v′ (u .slot)) × (extent v (entryAt v (u .slot)) ≤ extent v′ (entryAt v (u .slot))))
     → Fitting v us → Fitting v′ us
 unfolding readsByRight
 fitting-kept v v′ us c hc g f = record {
@@ -213,11 +225,13 @@ fitting-kept v v′ us c hc g f = record {
       let o = lun-fitted v u h fu in
       let k = g u h cu o in
       record {
-        used = rw (k .0) (o .used);
+        used = k .0 .use-same ∙ o .used;
         user-in = o .user-in;
-        right = rw (k .0) (o .right);
-        read-right = rw (k .0) (o .read-right);
-        place = rw (k .0) (place-longer v v′ (entryAt v (u .slot)) (u .place) (k .1) (o .place));
+        right = rw (owner-is (entryAt v (u .slot)) (entryAt v′ (u .slot)) (k .0)) (o .right);
+        read-right = rw (may-alike (entryAt v (u .slot)) (entryAt v′ (u .slot)) (k .0) (u .user) (u .offered)) (o .read-right);
+        place =
+            place-alike v′ (entryAt v (u .slot)) (entryAt v′ (u .slot)) (k .0) (u .place)
+            ∙ place-longer v v′ (entryAt v (u .slot)) (u .place) (k .1) (o .place);
       })) hc (f .each);
   agreed = f .agreed;
 }

@@ -1,28 +1,28 @@
-// Whether a desk fits a sound volume. Slots, users and rights come first, since they cost little; a held file's records are counted
-// once, whatever number of LUNs holds it.
+// Whether a desk fits a sound volume. Slots, users and rights come first: how far a file goes is looked up in its entry, which has to be
+// in use.
 ghost use mathlib.Core.Path.{_≡_};
 ghost use mathlib.Core.Bool.{true, not};
-ghost use Prim.Native.Nat.{ℕ, _*_, _<_};
-ghost use lib.ListN.{length, getD};
+ghost use Prim.Native.Nat.{_*_, _<_};
+ghost use lib.ListN.{length};
 ghost use lib.Dec.{leb};
 ghost use Rattle.lists.specs.Lists.{_and_, _or_, all};
-ghost use Rattle.numbers.specs.Numbers.{lunCount, lastUser};
+ghost use Rattle.numbers.specs.Numbers.{lastUser};
 ghost use Rattle.volume.specs.Directory.{unused, owner};
 ghost use Rattle.volume.specs.Code.Located.{Located};
 ghost use Rattle.files.specs.Files.{sound};
 ghost use Rattle.files.specs.Rights.{hasRight};
-ghost use Rattle.luns.specs.Luns.{freeLun, readsByRight, fits};
-ghost use Rattle.luns.specs.Code.Fits.{seated, stands, placeWithin, reach};
+ghost use Rattle.luns.specs.Luns.{readsByRight, fits};
+ghost use Rattle.luns.specs.Code.Fits.{seated, stands, placeWithin};
 use crate::Lun;
 use crate::Place;
 use crate::holding::all_agree;
 use files::extent::extent_of;
 use files::rights::has_right;
 use files::rights::may_read;
+use files::slot::is_contiguous;
 use numbers::LAST_USER;
 use numbers::LUNS;
 use numbers::MOST_MOVED;
-use volume::directory::contiguous;
 use volume::directory::entry_of;
 use volume::directory::owner;
 use volume::directory::unused;
@@ -98,9 +98,9 @@ fn place_within(contiguous: bool, n: usize, place: Place) -> bool
     }
 }
 
-// A free LUN, or one whose place exists in its file, which goes as far as n.
-fn stands(image: &[u8], p: Layout, u: Lun, n: usize) -> bool
-    requires { ⌜ Located (now image) p × (seated (now image) u ≡ true) × (n ≡ reach (now image) u) ⌝ }
+// A free LUN, or one whose place exists in its file.
+fn stands(image: &[u8], p: Layout, u: Lun) -> bool
+    requires { ⌜ Located (now image) p × (sound (now image) ≡ true) × (seated (now image) u ≡ true) ⌝ }
     ensures { λ r. ⌜ r ≡ stands (now (image .entry)) u ⌝ }
 {
     if !u.held {
@@ -108,44 +108,23 @@ fn stands(image: &[u8], p: Layout, u: Lun, n: usize) -> bool
     }
     let slot = u.slot as usize;
     let place = u.place;
-    place_within(contiguous(entry_of(image, p, slot)), n, place)
-}
-
-// How far the file of LUN j goes: known from an earlier LUN that holds it, or found.
-fn reach(image: &[u8], p: Layout, luns: [Lun; LUNS], known: [usize; LUNS], j: usize) -> usize
-    requires { ⌜ Located (now image) p × (sound (now image) ≡ true) × (all (seated (now image)) luns ≡ true) × (j < lunCount)
-        × ((k : ℕ) → k < j → getD known k 0 ≡ reach (now image) (getD luns k freeLun)) ⌝ }
-    ensures { λ r. ⌜ r ≡ reach (now (image .entry)) (getD luns j freeLun) ⌝ }
-{
-    let u = luns[j];
-    if !u.held {
-        return 0;
-    }
-    let slot = u.slot;
-    let mut k: usize = 0;
-    while k < j {
-        let v = luns[k];
-        if v.holds(slot) {
-            return known[k];
-        }
-        k += 1;
-    }
-    extent_of(image, p, slot as usize)
+    place_within(
+        is_contiguous(image, p, slot),
+        extent_of(image, p, slot),
+        place,
+    )
 }
 
 fn all_stand(image: &[u8], p: Layout, luns: [Lun; LUNS]) -> bool
     requires { ⌜ Located (now image) p × (sound (now image) ≡ true) × (all (seated (now image)) luns ≡ true) ⌝ }
     ensures { λ r. ⌜ r ≡ all (stands (now (image .entry))) luns ⌝ }
 {
-    let mut known = [0usize; LUNS];
     let mut j: usize = 0;
     while j < LUNS {
-        let n = reach(image, p, luns, known, j);
         let u = luns[j];
-        if !stands(image, p, u, n) {
+        if !stands(image, p, u) {
             return false;
         }
-        known[j] = n;
         j += 1;
     }
     true

@@ -9,6 +9,9 @@ pub const MOST_SECTORS: usize = 2048;
 /// Directory sectors, of eight entries each.
 pub const MOST_DIRS: usize = 8;
 
+/// Files of a volume.
+pub const MOST_FILES: usize = 8 * MOST_DIRS;
+
 /// Segments of a file.
 pub const MOST_SEGMENTS: usize = 62;
 

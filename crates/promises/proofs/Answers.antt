@@ -14,7 +14,8 @@ use Rattle.work.specs.Refusals.{code, Rule, _if_}
 use Rattle.desk.specs.declared.Answer.{Answer}
 use Rattle.desk.specs.declared.Answer.the-variants.{Done, Refused}
 use Rattle.desk.specs.Answers.{status, Outcome, moved, outcome}
-use Rattle.desk.specs.Calls.{step, Call, rules, Format, Check, Allocate, Assign, Close, Rewind, Delete, Read, Write, Update, beginRules, openRules, assignRules, deleteRules}
+use Rattle.desk.specs.Calls.{step, Call, rules, Format, Check, BringUp, Allocate, Assign, Close, Rewind, Delete, Read, Write, Update, beginRules, openRules, assignRules}
+use Rattle.desk.specs.Calls.{deleteRules}
 use Rattle.desk.specs.Desk.{State, ready}
 use Rattle.promises.specs.Answers.{statusTable, InTable, First, RefusedExactly, RefusalKeeps, UnreadyRefused, OneOutcome}
 use Rattle.promises.proofs.Passing.{refused-or-accepted, step-first, refusal}
@@ -73,7 +74,7 @@ refusal-keeps c s r e =
       buffer-kept = ap (λ (o : Outcome). o .buffer) q;
     }
 
--- all calls but format and check begin with the rule of a state that is not ready
+-- all calls but format, check and bring-up begin with the rule of a state that is not ready
 unready : (c : Call) (s : State) (rs : List Rule) → rules c s ≡ NotSound if not (ready s) ∷ rs → ready s ≡ false → step c s .answer ≡ Refused NotSound
 unready c s rs e h =
     let first-rule : First (NotSound if not (ready s) ∷ rs) 0 NotSound = record {
@@ -86,16 +87,17 @@ unready c s rs e h =
 
 pub unready-refused : UnreadyRefused
 unfolding rules beginRules openRules assignRules deleteRules
-unready-refused (Format id n) s f k h = absurd (f id n refl)
-unready-refused Check s f k h = absurd (k refl)
-unready-refused (Allocate caller desc i n l rc) s f k h = unready (Allocate caller desc i n l rc) s _ refl h
-unready-refused (Assign caller lun desc mode end offered) s f k h = unready (Assign caller lun desc mode end offered) s _ refl h
-unready-refused (Close caller lun) s f k h = unready (Close caller lun) s _ refl h
-unready-refused (Rewind caller lun) s f k h = unready (Rewind caller lun) s _ refl h
-unready-refused (Delete caller desc) s f k h = unready (Delete caller desc) s _ refl h
-unready-refused (Read caller lun sel num fmt buf) s f k h = unready (Read caller lun sel num fmt buf) s _ refl h
-unready-refused (Write caller lun sel num fmt bs) s f k h = unready (Write caller lun sel num fmt bs) s _ refl h
-unready-refused (Update caller lun sel num fmt bs) s f k h = unready (Update caller lun sel num fmt bs) s _ refl h
+unready-refused (Format id n) s f k u h = absurd (f id n refl)
+unready-refused Check s f k u h = absurd (k refl)
+unready-refused BringUp s f k u h = absurd (u refl)
+unready-refused (Allocate caller desc i n l rc) s f k u h = unready (Allocate caller desc i n l rc) s _ refl h
+unready-refused (Assign caller lun desc mode end offered) s f k u h = unready (Assign caller lun desc mode end offered) s _ refl h
+unready-refused (Close caller lun) s f k u h = unready (Close caller lun) s _ refl h
+unready-refused (Rewind caller lun) s f k u h = unready (Rewind caller lun) s _ refl h
+unready-refused (Delete caller desc) s f k u h = unready (Delete caller desc) s _ refl h
+unready-refused (Read caller lun sel num fmt buf) s f k u h = unready (Read caller lun sel num fmt buf) s _ refl h
+unready-refused (Write caller lun sel num fmt bs) s f k u h = unready (Write caller lun sel num fmt bs) s _ refl h
+unready-refused (Update caller lun sel num fmt bs) s f k u h = unready (Update caller lun sel num fmt bs) s _ refl h
 
 pub one-outcome : OneOutcome
 one-outcome c s a a′ img img′ d d′ buf buf′ e f =

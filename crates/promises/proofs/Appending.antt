@@ -7,13 +7,13 @@ use native.Mathlib.Omega.{arith}
 use lib.ListN.{length, length-append}
 use borrow.Author.Tests.{not-false, ltb-false}
 use Rattle.numbers.specs.Numbers.{mostSegments}
-use Rattle.volume.specs.Directory.{contiguous, recordLength, entryAt}
+use Rattle.volume.specs.Directory.{contiguous, recordLength, recordCount, entryAt, SameButCount}
 use Rattle.volume.specs.Sat.{free}
 use Rattle.records.specs.Records.{allowed}
 use Rattle.files.specs.Files.{extent, records}
-use Rattle.files.specs.Changes.{needed, newPairs, appended}
+use Rattle.files.specs.Changes.{needed, newPairs, oneMore, appended}
 use Rattle.keeping.proofs.AppendBytes.{bytes-appended}
-use Rattle.keeping.proofs.AppendKeeps.{appended-changed, appended-sound, appended-entry, records-appended}
+use Rattle.keeping.proofs.AppendKeeps.{appended-changed, appended-sound, appended-entry, appended-count, one-more-same, records-appended}
 use Rattle.work.specs.Transfers.{wrongLength, beyond}
 use Rattle.desk.specs.Desk.{State, fileOf, aimed}
 use Rattle.promises.specs.Contents.{slotHeld}
@@ -65,15 +65,21 @@ module _ (s : State) (lun i : ℕ) (ss : List ℕ) (A : Appending s lun i ss) wh
   e = entryOf s lun
 
   abbrev v′ : List ℕ
-  v′ = appended e ss v
+  v′ = appended k ss v
 
   abbrev H : Held s lun
   H = A .held-file
 
-  pub append-entry : entryAt (appended (entryOf s lun) ss (s .image)) (slotHeld s lun) ≡ entryOf s lun
+  pub append-entry : entryAt (appended (slotHeld s lun) ss (s .image)) (slotHeld s lun) ≡ oneMore (entryOf s lun)
   append-entry = appended-entry v (H .facts-of) k (H .slot-in) (H .lun-ok .used) (A .sequential) ss (A .fine) (A .enough) (A .few)
 
-  pub append-records : records (appended (entryOf s lun) ss (s .image)) (entryOf s lun) ≡ records (s .image) (entryOf s lun) ++ (ss ∷ [])
+  pub append-same : SameButCount (entryOf s lun) (oneMore (entryOf s lun))
+  append-same = one-more-same v (H .facts-of) k (H .slot-in) (H .lun-ok .used) (A .sequential) ss (A .fine) (A .enough) (A .few)
+
+  pub append-count : recordCount (oneMore (entryOf s lun)) ≡ recordCount (entryOf s lun) + 1
+  append-count = appended-count v (H .facts-of) k (H .slot-in) (H .lun-ok .used) (A .sequential) ss (A .fine) (A .enough) (A .few)
+
+  pub append-records : records (appended (slotHeld s lun) ss (s .image)) (entryOf s lun) ≡ records (s .image) (entryOf s lun) ++ (ss ∷ [])
   append-records = records-appended v (H .facts-of) k (H .slot-in) (H .lun-ok .used) (A .sequential) ss (A .fine) (A .enough) (A .few)
 
   extent-after : extent v′ e ≡ extent v e + 1
@@ -83,15 +89,17 @@ module _ (s : State) (lun i : ℕ) (ss : List ℕ) (A : Appending s lun i ss) wh
       ∙ length-append (records v e) (ss ∷ [])
       ∙ ap (λ (m : ℕ). m + 1) (sym (extent-records v e (A .sequential)))
 
-  pub append-there : i < extent (appended (entryOf s lun) ss (s .image)) (entryOf s lun)
+  pub append-there : i < extent (appended (slotHeld s lun) ss (s .image)) (entryOf s lun)
   append-there = omega (arith, A .at-end, extent-records v e (A .sequential), extent-after)
 
-  pub append-rewrites : Rewrites s lun ss (appended (entryOf s lun) ss (s .image)) i 1
+  pub append-rewrites : Rewrites s lun ss (appended (slotHeld s lun) ss (s .image)) i 1
   append-rewrites = record {
     ws = _;
+    entry = oneMore e;
     changed = appended-changed v (H .facts-of) k (H .slot-in) (H .lun-ok .used) (A .sequential) ss (A .fine) (A .enough) (A .few);
-    is-sound = appended-sound v (H .facts-of) k (H .slot-in) (H .lun-ok .used) (A .sequential) ss (A .fine) (A .enough) (A .few);
-    are-bytes = λ bi b. bytes-appended v (H .facts-of) k (H .slot-in) (H .lun-ok .used) (A .sequential) ss (A .fine) (A .enough) (A .few) bi b;
+    same = append-same;
+    is-sound = appended-sound v (H .facts-of) k (H .slot-in) (H .lun-ok .used) (A .sequential) ss (A .fine) (A .enough) (A .few) (H .counts-of);
+    are-bytes = λ bi b. bytes-appended v (H .facts-of) k (H .slot-in) (H .lun-ok .used) (A .sequential) ss (A .fine) (A .enough) (A .few) bi b (H .counts-of);
     as-long = omega (arith, extent-after);
     place = place-one v′ e i (A .sequential) append-there;
     elsewhere = λ u l h.

@@ -92,13 +92,13 @@ step-6 = Write 5 0 0 0 false (replicate 250 1)
 
 -- what step 6 finds: a sequential file with a record, its access block behind the SAT
 record AtStep6 : Type 0 where
-  is-done : accepts (step step-6 (reached 6) .answer) ≡ true
-  sequential : contiguous (fileOf (reached 6) 0) ≡ false
-  one-record : extent (reached 6 .image) (fileOf (reached 6) 0) ≡ 1
-  block-at : start (fileOf (reached 6) 0) ≡ 6
-  long : length (reached 6 .image) ≡ 4096
-  byte-was : sat-byte (reached 6 .image) ≡ 0xE3
-  byte-is : sat-byte (step step-6 (reached 6) .image) ≡ 0xF3
+  is-done : accepts (step step-6 (reached 7) .answer) ≡ true
+  sequential : contiguous (fileOf (reached 7) 0) ≡ false
+  one-record : extent (reached 7 .image) (fileOf (reached 7) 0) ≡ 1
+  block-at : start (fileOf (reached 7) 0) ≡ 6
+  long : length (reached 7 .image) ≡ 4096
+  byte-was : sat-byte (reached 7 .image) ≡ 0xE3
+  byte-is : sat-byte (step step-6 (reached 7) .image) ≡ 0xF3
 
 found : AtStep6
 unfolding sat-byte reached story blank descOf desc next run step-6 service-open
@@ -107,7 +107,7 @@ found = record { is-done = refl; sequential = refl; one-record = refl; block-at 
 pub not-only-E : NotOnlyE
 unfolding step-6
 not-only-E p meets h =
-    let s : State = reached 6 in
+    let s : State = reached 7 in
     let m : p step-6 s ≡ step step-6 s = meets step-6 s in
     let yes-done : accepts (p step-6 s .answer) ≡ true = ap (λ (o : Outcome). accepts (o .answer)) m ∙ found .is-done in
     let E = h s 5 0 0 0 false (replicate 250 1) yes-done (found .sequential) (omega (arith, found .one-record)) in

@@ -24,7 +24,7 @@ use Rattle.work.specs.Volumes.{slotOf, newFile}
 use Rattle.work.specs.Transfers.{written, writing, updating, reading, moving}
 use Rattle.desk.specs.Desk.{State, fileOf, aimed}
 use Rattle.desk.specs.Answers.{Outcome}
-use Rattle.desk.specs.Calls.{Call, Format, Check, Allocate, Assign, Close, Rewind, Delete, Read, Write, Update, quietly, transferred, checked, done}
+use Rattle.desk.specs.Calls.{Call, Format, Check, BringUp, Allocate, Assign, Close, Rewind, Delete, Read, Write, Update, quietly, transferred, checked, done}
 use Rattle.promises.specs.Sectors.{Bytes}
 use Rattle.promises.specs.Contents.{slotHeld}
 use Rattle.promises.specs.Answers.{NoFormat}
@@ -34,6 +34,7 @@ use Rattle.promises.proofs.Told.{AllocateTold, allocate-told, DeleteTol
 use Rattle.promises.proofs.Held.{entryOf, ready-sound}
 use Rattle.promises.proofs.Filing.{can-allocate}
 use Rattle.promises.proofs.NamedFile.{file-there, file-used}
+use Rattle.promises.proofs.Effects.BroughtUp.{bring-up-told, up-free}
 use Rattle.promises.proofs.Appending.{Appending, appending}
 use Rattle.promises.proofs.Overwriting.{Overwriting, overwriting}
 use Rattle.promises.proofs.Updating.{update-free}
@@ -46,7 +47,7 @@ unfolding newFile
 free-allocate caller desc k n l rc s T =
     let v : List ℕ = s .image in
     let A = can-allocate caller desc k n l rc s T in
-    let c = changed-free v _ _ _ _ (allocate-changed A) (facts v (ready-sound s (T .is-ready))) (allocate-sound A) in
+    let c = changed-free v _ _ _ _ (allocate-changed A) (facts v (ready-sound s (T .is-ready))) (facts _ (allocate-sound A)) in
     let new = ap length (allocate-owned A) ∙ length-range (lowestRun (taken k n) v) (taken k n) in
     omega (arith, c, new, unused-count v (entryAt v (index unused (entries v))) (A .slot-unused))
 
@@ -66,7 +67,7 @@ free-delete caller desc s T =
     let k : ℕ = slotOf v desc in
     let h = ready-sound s (T .is-ready) in
     let l = file-there (T .named-file) in
-    let c = changed-free v _ k _ _ (delete-changed v k h l) (facts v h) (delete-sound v k h l) in
+    let c = changed-free v _ k _ _ (delete-changed v k h l) (facts v h) (facts _ (delete-sound v k h l)) in
     omega (arith, c, unused-count (deleted k v) (blanks 32) (zeros-blanks 32), held-count v h k l (file-used (T .named-file)))
 
 -- Write: an append takes the sectors that it needs
@@ -87,26 +88,27 @@ module _ (caller lun sel num : ℕ) (bs : List ℕ) (s : State) (T : WriteTold s
       let H = A .held-file in
       rw (sym (encoded-count (recordLength e) bs)) (needed-count v (H .facts-of) (slotHeld s lun) (H .slot-in) (H .lun-ok .used) q bs)
 
-  free-write : free (written e i bs v) + (if contiguous e then 0 else growth v e (length bs)) ≡ free v + 0
+  free-write : free (written (slotHeld s lun) i bs v) + (if contiguous e then 0 else growth v e (length bs)) ≡ free v + 0
   free-write = go (contiguous e) refl
     where
-      go : (b : Bool) → contiguous e ≡ b → free (written e i bs v) + (if contiguous e then 0 else growth v e (length bs)) ≡ free v + 0
+      go : (b : Bool) → contiguous e ≡ b → free (written (slotHeld s lun) i bs v) + (if contiguous e then 0 else growth v e (length bs)) ≡ free v + 0
       go true q =
           let O : Overwriting s lun i bs = overwriting caller lun sel num bs s T q in
           let H = O .held-file in
           let f : free (overwritten e i bs v) ≡ free v =
           overwritten-free v (H .facts-of) (slotHeld s lun) (H .slot-in) (H .lun-ok .used) (O .runs) i _ bs (O .inside) (O .in-sectors .whole) in
-          rw (q, written-run e i bs v q) (omega (arith, f))
+          rw (q, written-run (slotHeld s lun) i bs v q) (omega (arith, f))
       go false q =
           let A : Appending s lun i bs = appending caller lun sel num bs s T q in
           let H = A .held-file in
           let f = appended-free v (H .facts-of) (slotHeld s lun) (H .slot-in) (H .lun-ok .used) (A .sequential) bs (A .fine) (A .enough) (A .few) in
-          rw (q, written-records e i bs v q, sym (needs q)) (omega (arith, f))
+          rw (q, written-records (slotHeld s lun) i bs v q, sym (needs q)) (omega (arith, f))
 
 counted : (c : Call) (s : State) → Bytes (s .image) → NoFormat c → Accepted c s → free (done c s .image) + trade c s .takes ≡ free (s .image) + trade c s .gives
 unfolding done quietly checked transferred trade fileOf reading writing updating moving
 counted (Format id n) s b h a = absurd (h id n refl)
 counted Check s b h a = refl
+counted BringUp s b h a = ap (λ (n : ℕ). n + 0) (up-free s (bring-up-told s a))
 counted (Allocate caller desc k n l rc) s b h a = free-allocate caller desc k n l rc s (allocate-told caller desc k n l rc s a) ∙ omega arith
 counted (Assign caller lun desc mode end offered) s b h a = refl
 counted (Close caller lun) s b h a = refl

@@ -32,6 +32,8 @@ use Rattle.promises.proofs.Effects.Buffers.{only-reads-hand-over}
 use Rattle.promises.proofs.Private.ByRight.{read-by-right, never-a-byte}
 use Rattle.promises.proofs.Private.OldVolumes.{old-volumes}
 use Rattle.promises.proofs.Fronts.ReadsThrough.{read-by-right-through}
+use Rattle.promises.proofs.Effects.BroughtUp.{bring-up-exactly, accepted-bring-up, sound-already}
+use Rattle.promises.proofs.Lasts.StoredCounts.{stored-counts, stored-counts-stay}
 use Rattle.promises.proofs.Conclusions.{not-all-refused, not-all-done, not-unchanged, not-only-E, check-counts}
 
 pub demands : Demands
@@ -100,6 +102,11 @@ demands = record {
   never-a-byte = never-a-byte;
   only-reads-hand-over = only-reads-hand-over;
   old-volumes = old-volumes;
+  stored-counts = stored-counts;
+  stored-counts-stay = stored-counts-stay;
+  bring-up-exactly = bring-up-exactly;
+  accepted-bring-up = accepted-bring-up;
+  sound-already = sound-already;
   one-outcome = one-outcome;
   not-all-refused = not-all-refused;
   not-all-done = not-all-done;

@@ -3,3 +3,4 @@ pub mod Allocated
 pub mod Deleted
 pub mod Seated
 pub mod Buffers
+pub mod BroughtUp

@@ -1,6 +1,6 @@
 -- What a ready state says of the file behind a LUN that a caller holds; and the LUNs over a changed volume.
 use mathlib.Core.List.{List, [], _∷_}
-use mathlib.Core.Path.{_≡_, refl, ap, sym, _∙_}
+use mathlib.Core.Path.{_≡_, refl}
 use mathlib.Core.Bool.{true, Bool}
 use Prim.Native.Nat.{ℕ, _*_, _<_, _≤_}
 use native.Mathlib.Decide.{ℕ-discrete}
@@ -9,13 +9,14 @@ use borrow.Author.Tests.{ltb-true}
 use Rattle.numbers.specs.Numbers.{lunCount}
 use Rattle.lists.specs.Lists.{all, _and_}
 use Rattle.lists.proofs.Tests.{and-left, and-right}
-use Rattle.volume.specs.Directory.{entryAt}
+use Rattle.volume.specs.Directory.{entryAt, SameButCount}
+use Rattle.volume.proofs.EntryCounted.{alike-entry}
 use Rattle.volume.specs.Volume.{dirs}
 use Rattle.files.specs.Files.{extent, sound}
-use Rattle.files.proofs.SoundFacts.{Facts, facts}
-use Rattle.files.proofs.UsedSlots.{used-slot}
+use Rattle.files.proofs.SoundFacts.{Facts, CountsTrue, facts, counts-true}
+use Rattle.files.proofs.slot.UsedSlots.{used-slot}
 use Rattle.files.proofs.OneFileChanged.{Changed, entry-other, file-other, entry-here}
-use Rattle.keeping.proofs.RecordsSame.{extent-same}
+use Rattle.files.proofs.Kept.RecordsSame.{extent-same}
 use Rattle.luns.specs.declared.Lun.{Lun}
 use Rattle.luns.proofs.Fitting.{Fitted, Fitting, fitting, fitting-kept}
 use Rattle.desk.specs.Desk.{State, lunAt, mine, ready}
@@ -38,6 +39,7 @@ module _ (s : State) (h : ready s ≡ true) where
 
 pub record Held (s : State) (lun : ℕ) : Type 0 where
   pub facts-of : Facts (s .image)
+  pub counts-of : CountsTrue (s .image)
   pub fits-of : Fitting (s .image) (s .desk .luns)
   pub lun-in : lun < lunCount
   pub is-held : lunAt (s .desk) lun .held ≡ true
@@ -54,6 +56,7 @@ held-by s caller lun r m =
     let o = lun-fits (s .image) (s .desk) lun l h f in
     record {
       facts-of = facts (s .image) (ready-sound s r);
+      counts-of = counts-true (s .image) (ready-sound s r);
       fits-of = f;
       lun-in = l;
       is-held = h;
@@ -64,18 +67,18 @@ held-by s caller lun r m =
 -- A volume changed in slot k: the LUNs of other slots fit as they did
 pub changed-fitting : (v v′ : List ℕ) (k : ℕ) (e ws : List ℕ) → Changed v v′ k e ws → (us : List Lun) (c : Lun → Bool) → all c us ≡ true
     → ((u : Lun) → u .held ≡ true → c u ≡ true → Fitted v u → u .slot ≡ k
-    → (entryAt v′ (u .slot) ≡ entryAt v (u .slot)) × (extent v (entryAt v (u .slot)) ≤ extent v′ (entryAt v (u .slot))))
+    → SameButCount (entryAt v (u .slot)) (entryAt v′ (u .slot)) × (extent v (entryAt v (u .slot)) ≤ extent v′ (entryAt v (u .slot))))
     → Fitting v us → Fitting v′ us
 changed-fitting v v′ k e ws C us c hc here f = fitting-kept v v′ us c hc each f
   where
     each : (u : Lun) → u .held ≡ true → c u ≡ true → Fitted v u
-        → (entryAt v′ (u .slot) ≡ entryAt v (u .slot)) × (extent v (entryAt v (u .slot)) ≤ extent v′ (entryAt v (u .slot)))
+        → SameButCount (entryAt v (u .slot)) (entryAt v′ (u .slot)) × (extent v (entryAt v (u .slot)) ≤ extent v′ (entryAt v (u .slot)))
     each u h cu o = elim (ℕ-discrete (u .slot) k) [
       | yes q ↦ here u h cu o q
       | no n ↦
           let S = file-other v v′ k e ws C (u .slot) (used-slot v (u .slot) (o .used)) n (o .used) in
           let x = extent-same v v′ (entryAt v (u .slot)) S (o .used) in
-          (entry-other v v′ k e ws C (u .slot) n, omega arith)
+          (alike-entry (entryAt v (u .slot)) (entryAt v′ (u .slot)) (entry-other v v′ k e ws C (u .slot) n), omega arith)
     ]
 
 -- .. where nothing more is known of the LUNs than that they fit
@@ -84,9 +87,9 @@ unfolding all _and_
 any-lun [] = refl
 any-lun (u ∷ us) = any-lun us
 
--- the change of one file that keeps its entry and is as long or longer
-pub grown-fitting : (v v′ : List ℕ) (k : ℕ) (ws : List ℕ) → Changed v v′ k (entryAt v k) ws → extent v (entryAt v k) ≤ extent v′ (entryAt v k)
+-- the change of one file that keeps its entry but for the count, and is as long or longer
+pub grown-fitting : (v v′ : List ℕ) (k : ℕ) (e ws : List ℕ) → Changed v v′ k e ws → SameButCount (entryAt v k) e → extent v (entryAt v k) ≤ extent v′ (entryAt v k)
     → (us : List Lun) → Fitting v us → Fitting v′ us
-grown-fitting v v′ k ws C x us f =
-    changed-fitting v v′ k (entryAt v k) ws C us (λ u. true) (any-lun us)
-    (λ u h c o q. (ap (entryAt v′) q ∙ entry-here v v′ k (entryAt v k) ws C ∙ ap (entryAt v) (sym q), rw q x)) f
+grown-fitting v v′ k e ws C S x us f =
+    changed-fitting v v′ k e ws C us (λ u. true) (any-lun us)
+    (λ u h c o q. (rw (q, entry-here v v′ k e ws C) S, rw q x)) f

@@ -1,4 +1,5 @@
 pub mod Lasting
 pub mod NeverPastEnd
 pub mod ReadBack
+pub mod StoredCounts
 pub mod TextsKept

@@ -5,7 +5,7 @@ use mathlib.Core.List.{List}
 use Prim.Native.Nat.{ℕ, _*_, _<_}
 use Rattle.volume.specs.Volume.{dirs}
 use Rattle.volume.specs.Directory.{entryAt, unused, named}
-use Rattle.files.proofs.UsedSlots.{named-used}
+use Rattle.files.proofs.slot.UsedSlots.{named-used}
 use Rattle.keeping.proofs.SlotFound.{slot-in, slot-holds}
 use Rattle.work.specs.Volumes.{exists, slotOf}
 use Rattle.promises.proofs.Told.{NamedTold}

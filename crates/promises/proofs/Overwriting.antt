@@ -9,6 +9,7 @@ use borrow.Author.Tests.{ltb-false}
 use Rattle.lists.specs.Parts.{part}
 use Rattle.lists.proofs.Tests.{or-right}
 use Rattle.volume.specs.Directory.{contiguous, size, entryAt}
+use Rattle.volume.proofs.EntryCounted.{alike-refl}
 use Rattle.files.specs.Files.{extent}
 use Rattle.files.specs.Changes.{overwritten}
 use Rattle.keeping.proofs.OverwriteKeeps.{overwritten-changed, overwritten-sound, overwritten-entry, overwritten-read, overwritten-others, bytes-overwritten}
@@ -81,8 +82,10 @@ module _ (s : State) (lun i : ℕ) (ss : List ℕ) (O : Overwriting s lun i ss) 
   pub overwrite-rewrites : Rewrites s lun ss (overwritten (entryOf s lun) i ss (s .image)) i (length ss / 256)
   overwrite-rewrites = record {
     ws = _;
+    entry = e;
     changed = overwritten-changed v (H .facts-of) k (H .slot-in) (H .lun-ok .used) (O .runs) i n ss (O .inside) (O .in-sectors .whole);
-    is-sound = overwritten-sound v (H .facts-of) k (H .slot-in) (H .lun-ok .used) (O .runs) i n ss (O .inside) (O .in-sectors .whole);
+    same = alike-refl e;
+    is-sound = overwritten-sound v (H .facts-of) k (H .slot-in) (H .lun-ok .used) (O .runs) i n ss (O .inside) (O .in-sectors .whole) (H .counts-of);
     are-bytes = λ bi b. bytes-overwritten e i ss v b bi;
     as-long = omega (arith, extent-run v e (O .runs), extent-run v′ e (O .runs));
     place = place-run v′ e i n (O .runs) (O .in-sectors .some) (O .in-sectors .few) (O .inside);

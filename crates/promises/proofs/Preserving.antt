@@ -8,17 +8,17 @@ use native.Mathlib.Decide.{ℕ-discrete, decLt}
 use native.Mathlib.Omega.{arith}
 use borrow.Author.Tests.{eq-eqb, le-leb, lt-ltb}
 use Rattle.lists.proofs.Tests.{both-true}
-use Rattle.volume.specs.Directory.{entryAt}
+use Rattle.volume.specs.Directory.{entryAt, SameButCount}
 use Rattle.volume.proofs.LayoutKept.{keeps-trailer}
 use Rattle.files.specs.Files.{extent, sound}
 use Rattle.files.proofs.OneFileChanged.{Changed, entry-other, file-other, entry-here}
-use Rattle.keeping.proofs.RecordsSame.{records-same}
+use Rattle.files.proofs.Kept.RecordsSame.{records-same}
 use Rattle.luns.specs.declared.Place.the-variants.{At}
 use Rattle.luns.specs.Luns.{placeExists, movedTo}
-use Rattle.luns.proofs.Fitting.{Fitting, fits-is}
+use Rattle.luns.proofs.Fitting.{Fitting, fits-is, place-alike}
 use Rattle.work.specs.Transfers.{Moving}
 use Rattle.desk.specs.Desk.{State, state, lunAt, putLun}
-use Rattle.desk.specs.Calls.{Touch, after, Nothing, OneFile, Units, WhereFilesLie, Everything}
+use Rattle.desk.specs.Calls.{Touch, after, Nothing, OneFile, Units, RecordCounts, WhereFilesLie, Everything}
 use Rattle.desk.specs.declared.Desk.{Desk}
 use Rattle.desk.proofs.DeskFitting.{moved-fitting}
 use Rattle.promises.specs.Touches.{changes, ends}
@@ -33,6 +33,7 @@ unfoldable pub remakes : Touch → Bool
 remakes Nothing = false
 remakes (OneFile k) = false
 remakes (Units k i n) = false
+remakes RecordCounts = false
 remakes WhereFilesLie = false
 remakes Everything = true
 
@@ -112,7 +113,9 @@ module _ (s t : State) (j : ℕ) (e ws : List ℕ) (C : Changed (s .image) (t .i
 -- A transfer to the file behind a LUN: what it makes of the volume, where it touches n units from i on
 pub record Rewrites (s : State) (lun : ℕ) (bs v′ : List ℕ) (i n : ℕ) : Type 0 where
   pub ws : List ℕ
-  pub changed : Changed (s .image) v′ (slotHeld s lun) (entryOf s lun) ws
+  pub entry : List ℕ
+  pub changed : Changed (s .image) v′ (slotHeld s lun) entry ws
+  pub same : SameButCount (entryOf s lun) entry
   pub is-sound : sound v′ ≡ true
   pub are-bytes : Bytes (s .image) → Bytes bs → Bytes v′
   pub as-long : extent (s .image) (entryOf s lun) ≤ extent v′ (entryOf s lun)
@@ -144,21 +147,24 @@ off-units j i n u h = elim (decLt u i) [
 ]
 
 module _ (s : State) (bi : Bytes (s .image)) (lun : ℕ) (bs v′ : List ℕ) (i n : ℕ) (H : Held s lun) (R : Rewrites s lun bs v′ i n) where
-  same-entry : entryAt v′ (slotHeld s lun) ≡ entryOf s lun
-  same-entry = entry-here (s .image) v′ (slotHeld s lun) (entryOf s lun) (R .ws) (R .changed)
+  its-entry : entryAt v′ (slotHeld s lun) ≡ R .entry
+  its-entry = entry-here (s .image) v′ (slotHeld s lun) (R .entry) (R .ws) (R .changed)
+
+  there : placeExists v′ (entryAt v′ (slotHeld s lun)) (At i n) ≡ true
+  there = rw its-entry (place-alike v′ (entryOf s lun) (R .entry) (R .same) (At i n) ∙ R .place)
 
   good-moved : Bytes bs → Good (movedOn s lun v′ i n)
   good-moved b =
-      let f = grown-fitting (s .image) v′ (slotHeld s lun) (R .ws) (R .changed) (R .as-long) (s .desk .luns) (H .fits-of) in
+      let f = grown-fitting (s .image) v′ (slotHeld s lun) (R .entry) (R .ws) (R .changed) (R .same) (R .as-long) (s .desk .luns) (H .fits-of) in
       record {
         volume = record { is-sound = R .is-sound; is-bytes = R .are-bytes bi b };
-        is-fitting = fits-is v′ _ (moved-fitting v′ (s .desk) lun (At i n) (H .lun-in) (H .is-held) (rw same-entry (R .place)) f);
+        is-fitting = fits-is v′ _ (moved-fitting v′ (s .desk) lun (At i n) (H .lun-in) (H .is-held) there f);
       }
 
   pub preserves-rewrite : Preserves bs (Units (slotHeld s lun) i n) s (movedOn s lun v′ i n)
   preserves-rewrite =
-      preserves-change s (movedOn s lun v′ i n) (slotHeld s lun) (entryOf s lun) (R .ws) (R .changed) bs (Units (slotHeld s lun) i n) good-moved
+      preserves-change s (movedOn s lun v′ i n) (slotHeld s lun) (R .entry) (R .ws) (R .changed) bs (Units (slotHeld s lun) i n) good-moved
       (λ k f h. off-slot (slotHeld s lun) i n k h)
       (λ u f l h.
-      lasting-by (s .image) v′ (slotHeld s lun) u same-entry (omega (arith, R .as-long))
+      lasting-by (s .image) v′ (slotHeld s lun) u (rw its-entry (R .same)) (omega (arith, R .as-long))
       (R .elsewhere u l (off-units (slotHeld s lun) i n u h)))

@@ -8,14 +8,16 @@ use native.Mathlib.Omega.{arith}
 use lib.ListN.{length, getD, set, List·getD-append}
 use lib.Seq.{getD-set-other, getD-append-add}
 use Rattle.lists.specs.Parts.{part}
-use Rattle.volume.specs.Directory.{contiguous, size, start, entryAt, unused}
+use Rattle.volume.specs.Directory.{contiguous, size, start, entryAt, unused, SameButCount}
+use Rattle.volume.proofs.EntryCounted.{contiguous-is, alike-entry, alike-trans}
 use Rattle.volume.proofs.Slots.{part-part}
 use Rattle.volume.proofs.RunFound.{sectors-part}
 use Rattle.records.specs.Streams.{laidOut}
 use Rattle.ownership.specs.Owners.{logical}
 use Rattle.files.specs.Files.{records, recordAt, extent, stored}
 use Rattle.files.specs.Changes.{sectorsAt}
-use Rattle.files.proofs.UsedSlots.{used-slot}
+use Rattle.files.proofs.Kept.EntryAlike.{records-alike, extent-alike}
+use Rattle.files.proofs.slot.UsedSlots.{used-slot}
 use Rattle.promises.specs.Contents.{unitOf, SameFile, SameFrame}
 use Rattle.promises.specs.Lasting.{Lasting}
 use Rattle.promises.specs.Sectors.{File}
@@ -80,30 +82,47 @@ module _ (v v′ e : List ℕ) where
   unfolding recordAt
   record-other i j r n h = ap (λ (rs : List (List ℕ)). getD rs i []) h ∙ getD-set-other (records v e) j i r [] n
 
--- a unit that stays, in a file whose entry stays
+-- the records and units of entries that are the same but for the count
+record-alike : (e d : List ℕ) → SameButCount e d → (img : List ℕ) (i : ℕ) → recordAt img d i ≡ recordAt img e i
+unfolding recordAt
+record-alike e d S img i = ap (λ (rs : List (List ℕ)). getD rs i []) (records-alike e d S img)
+
+pub unit-alike : (e d : List ℕ) → SameButCount e d → (img : List ℕ) (i : ℕ) → unitOf img d i ≡ unitOf img e i
+unit-alike e d S img i = go (contiguous e) refl
+  where
+    go : (b : Bool) → contiguous e ≡ b → unitOf img d i ≡ unitOf img e i
+    go true q = ap (λ (x : List ℕ). unitOf img x i) (S .contiguous-same q)
+    go false q =
+        unit-record img d i (contiguous-is e d S ∙ q) ∙ record-alike e d S img i ∙ sym (unit-record img e i q)
+
+-- a file whose bytes and records stay has the extent and the units that it had
+module _ (v v′ e : List ℕ) where
+  pub extent-kept : (contiguous e ≡ false → records v′ e ≡ records v e) → extent v′ e ≡ extent v e
+  extent-kept r = go (contiguous e) refl
+    where
+      go : (b : Bool) → contiguous e ≡ b → extent v′ e ≡ extent v e
+      go true q = extent-run v′ e q ∙ sym (extent-run v e q)
+      go false q = extent-records v′ e q ∙ ap length (r q) ∙ sym (extent-records v e q)
+
+  pub unit-kept : (i : ℕ) → stored v′ e ≡ stored v e → (contiguous e ≡ false → records v′ e ≡ records v e) → i < extent v e → unitOf v′ e i ≡ unitOf v e i
+  unit-kept i bytes r h = go (contiguous e) refl
+    where
+      go : (b : Bool) → contiguous e ≡ b → unitOf v′ e i ≡ unitOf v e i
+      go true q =
+          let l : i < size e = omega (arith, h, extent-run v e q) in
+          unit-sector v′ e i q ∙ sector-stored v′ e i q l ∙ ap (part (256 * i) 256) bytes ∙ sym (sector-stored v e i q l) ∙ sym (unit-sector v e i q)
+      go false q = unit-record v′ e i q ∙ record-same v v′ e i (r q) ∙ sym (unit-record v e i q)
+
+-- a unit that stays, in a file whose entry stays but for the count
 module _ (v v′ : List ℕ) (k i : ℕ) where
-  pub lasting-by : entryAt v′ k ≡ entryAt v k → i < extent v′ (entryAt v k) → unitOf v′ (entryAt v k) i ≡ unitOf v (entryAt v k) i → Lasting v v′ k i
-  lasting-by e h u = record { same-entry = e; still-there = h; same-unit = ap (λ (x : List ℕ). unitOf v′ x i) e ∙ u }
+  pub lasting-by : SameButCount (entryAt v k) (entryAt v′ k) → i < extent v′ (entryAt v k) → unitOf v′ (entryAt v k) i ≡ unitOf v (entryAt v k) i → Lasting v v′ k i
+  lasting-by S h u = record { same-but-count = S; still-there = h; same-unit = unit-alike (entryAt v k) (entryAt v′ k) S v′ i ∙ u }
 
   -- the same file has the same units
   pub lasting-same : SameFile v v′ k → i < extent v (entryAt v k) → Lasting v v′ k i
-  lasting-same S h = go (contiguous e) refl
-    where
-      e : List ℕ
-      e = entryAt v k
-
-      go : (b : Bool) → contiguous e ≡ b → Lasting v v′ k i
-      go true q =
-          let l : i < size e = omega (arith, h, extent-run v e q) in
-          lasting-by (S .entry-same) (omega (arith, l, extent-run v′ e q))
-          (unit-sector v′ e i q
-          ∙ sector-stored v′ e i q l
-          ∙ ap (part (256 * i) 256) (S .bytes-same)
-          ∙ sym (sector-stored v e i q l)
-          ∙ sym (unit-sector v e i q))
-      go false q =
-          lasting-by (S .entry-same) (omega (arith, h, extent-records v e q, extent-records v′ e q, ap length (S .records-same q)))
-          (unit-record v′ e i q ∙ record-same v v′ e i (S .records-same q) ∙ sym (unit-record v e i q))
+  lasting-same S h =
+      lasting-by (alike-entry (entryAt v k) (entryAt v′ k) (S .entry-same)) (omega (arith, h, extent-kept v v′ (entryAt v k) (S .records-same)))
+      (unit-kept v v′ (entryAt v k) i (S .bytes-same) (S .records-same) h)
 
 -- nothing happened to the image; one change after the other
 pub same-file : (v : List ℕ) (k : ℕ) → SameFile v v k
@@ -117,12 +136,12 @@ lasting-image v k i h = lasting-same v v k i (same-file v k) h
 
 pub lasting-trans : (u v w : List ℕ) (k i : ℕ) → Lasting u v k i → Lasting v w k i → Lasting u w k i
 lasting-trans u v w k i a b = record {
-  same-entry = b .same-entry ∙ a .same-entry;
-  still-there = rw (a .same-entry) at (b .still-there);
+  same-but-count = alike-trans (entryAt u k) (entryAt v k) (entryAt w k) (a .same-but-count) (b .same-but-count);
+  still-there = rw (extent-alike (entryAt u k) (entryAt v k) (a .same-but-count) w) at (b .still-there);
   same-unit = b .same-unit ∙ a .same-unit;
 }
 
-pub file-after : (v v′ : List ℕ) (k : ℕ) → unused (entryAt v k) ≡ false → entryAt v′ k ≡ entryAt v k → File v′ k
-file-after v v′ k f e =
-    let u : unused (entryAt v′ k) ≡ false = ap unused e ∙ f in
+pub file-after : (v v′ : List ℕ) (k : ℕ) → unused (entryAt v k) ≡ false → SameButCount (entryAt v k) (entryAt v′ k) → File v′ k
+file-after v v′ k f S =
+    let u : unused (entryAt v′ k) ≡ false = S .use-same ∙ f in
     record { slot = used-slot v′ k u; used = u }

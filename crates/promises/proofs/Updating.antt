@@ -8,10 +8,11 @@ use native.Mathlib.Omega.{arith}
 use lib.ListN.{length, set, length-set}
 use Rattle.volume.specs.Directory.{entryAt, contiguous, recordLength}
 use Rattle.volume.specs.Sat.{free}
+use Rattle.volume.proofs.EntryCounted.{alike-refl}
 use Rattle.records.specs.Records.{allowed}
 use Rattle.files.specs.Files.{extent, records, recordAt}
 use Rattle.files.specs.Changes.{updated}
-use Rattle.files.proofs.RecordUpdated.{updated-changed, updated-free, updated-sound, updated-entry, records-updated, bytes-updated}
+use Rattle.files.proofs.replace.RecordUpdated.{updated-changed, updated-free, updated-sound, updated-entry, records-updated, bytes-updated}
 use Rattle.work.specs.Transfers.{storedAs, moving, updating}
 use Rattle.work.proofs.TextRules.{stored-bytes}
 use Rattle.desk.specs.Desk.{State, fileOf, aimed}
@@ -84,8 +85,10 @@ module _
   rewrites : Rewrites s lun ss v′ i 1
   rewrites = record {
     ws = _;
+    entry = e;
     changed = updated-changed v (H .facts-of) k (H .slot-in) (H .lun-ok .used) sequential bi i ss there fine long;
-    is-sound = updated-sound v (H .facts-of) k (H .slot-in) (H .lun-ok .used) sequential bi i ss there fine long;
+    same = alike-refl e;
+    is-sound = updated-sound v (H .facts-of) k (H .slot-in) (H .lun-ok .used) sequential bi i ss there fine long (H .counts-of);
     are-bytes = λ z. bytes-updated v (H .facts-of) k (H .slot-in) (H .lun-ok .used) sequential bi i ss there fine long;
     as-long = omega (arith, extent-after);
     place = place-one v′ e i sequential (omega (arith, there, extent-records v e sequential, extent-after));

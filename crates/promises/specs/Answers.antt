@@ -11,7 +11,7 @@ use Rattle.work.specs.declared.Refusal.the-variants.{NotSound}
 use Rattle.work.specs.Refusals.{code, Rule, _if_}
 use Rattle.desk.specs.Desk.{State, ready}
 use Rattle.desk.specs.Answers.{status, moved, Outcome}
-use Rattle.desk.specs.Calls.{Call, Format, Check, step, given, rules, Ensured}
+use Rattle.desk.specs.Calls.{Call, Format, Check, BringUp, step, given, rules, Ensured}
 use Rattle.desk.specs.declared.Answer.{Answer}
 use Rattle.desk.specs.declared.Answer.the-variants.{Refused}
 use Rattle.desk.specs.declared.Desk.{Desk}
@@ -54,14 +54,16 @@ RefusesExactly p = (c : Call) (s : State) (r : Refusal) → (p c s .answer ≡ R
 abbrev pub RefusedExactly : Type 0
 RefusedExactly = RefusesExactly (λ c s. step c s)
 
--- RULES, Status numbers: $6F: a volume that is not sound, or a desk that does not fit it, is refused by every call but format and check
+-- RULES, Status numbers: $6F: a volume that is not sound, or a desk that does not fit it, is refused by every call but format, check and
+-- bring-up (`BringUpExactly`)
 abbrev pub NoFormat : Call → Type 0
 NoFormat c = (id : List ℕ) (n : ℕ) → c ≢ Format id n
 
 abbrev pub UnreadyRefused : Type 0
-UnreadyRefused = (c : Call) (s : State) → NoFormat c → c ≢ Check → ready s ≡ false → step c s .answer ≡ Refused NotSound
+UnreadyRefused =
+    (c : Call) (s : State) → NoFormat c → c ≢ Check → c ≢ BringUp → ready s ≡ false → step c s .answer ≡ Refused NotSound
 
--- At most one outcome satisfies each call's statement: `Ensured` is what the ten public functions ensure
+-- At most one outcome satisfies each call's statement: `Ensured` is what the eleven public functions ensure
 pub record SameOutcome (a a′ : Answer) (img img′ : List ℕ) (d d′ : Desk) (buf buf′ : List ℕ) : Type 0 where
   pub answers : a ≡ a′
   pub images : img ≡ img′

@@ -9,7 +9,7 @@ use lib.ListN.{length, set}
 use Rattle.lists.specs.Lists.{if_then_else_, all}
 use Rattle.lists.specs.Parts.{part, over, sector}
 use Rattle.volume.specs.Volume.{trailer}
-use Rattle.volume.specs.Directory.{contiguous, entryAt}
+use Rattle.volume.specs.Directory.{contiguous, entryAt, recordCount, SameButCount}
 use Rattle.records.specs.Records.{allowed, streamOf}
 use Rattle.ownership.specs.Blocks.{block}
 use Rattle.ownership.specs.Owners.{logical}
@@ -49,11 +49,12 @@ pub record OnlyLun (d d′ : Desk) (lun : ℕ) (u : Lun) : Type 0 where
 abbrev pub Moves : State → Outcome → ℕ → ℕ → ℕ → Type 0
 Moves s o lun i n = OnlyLun (s .desk) (o .desk) lun (movedTo (At i n) (lunAt (s .desk) lun))
 
--- RULES, Write: the file's records are the old ones and the new one; or exactly those sectors have the data. Of bs, the bytes sent, ss is
--- stored (`storedAs`)
+-- RULES, Write: the file's records are the old ones and the new one, and its entry is the same but for the record count, which is one more;
+-- or exactly those sectors have the data, and the entry is the same. Of bs, the bytes sent, ss is stored (`storedAs`)
 pub record Wrote (s : State) (o : Outcome) (lun i : ℕ) (bs ss : List ℕ) : Type 0 where
   pub answered : o .answer ≡ Done (Moved (length bs))
-  pub entry-same : entryAt (o .image) (slotHeld s lun) ≡ fileOf s lun
+  pub same-but-count : SameButCount (fileOf s lun) (entryAt (o .image) (slotHeld s lun))
+  pub one-more : contiguous (fileOf s lun) ≡ false → recordCount (entryAt (o .image) (slotHeld s lun)) ≡ recordCount (fileOf s lun) + 1
   pub appended-record : contiguous (fileOf s lun) ≡ false
       → (i ≡ length (records (s .image) (fileOf s lun)))
       × (records (o .image) (fileOf s lun) ≡ records (s .image) (fileOf s lun) ++ (ss ∷ []))

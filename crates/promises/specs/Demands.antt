@@ -17,6 +17,7 @@ use Rattle.promises.specs.Fronts.{OnlyReadsFill, FrontRefusedExactly, Ac
 use Rattle.promises.specs.Fronts.{UpdatedThrough, RequestsAreVisits, RequestsAreRuns, FrontStaysGood, OneEnding}
 use Rattle.promises.specs.FrontSteps.{FrontSteps}
 use Rattle.promises.specs.Private.{ReadByRight, ReadByRightThrough, NeverAByte, OnlyReadsHandOver, OldVolumes}
+use Rattle.promises.specs.BroughtUp.{StoredCounts, StoredCountsStay, BringUpExactly, AcceptedBringUp, SoundAlready}
 use Rattle.promises.specs.Conclusions.{NotAllRefused, NotAllDone, NotUnchanged, NotOnlyE, CheckCounts}
 use Rattle.promises.specs.Steps.{SmallVolume}
 use Rattle.promises.specs.Table.{TableDiffers}
@@ -104,12 +105,20 @@ pub record Demands : Type 0 where
   -- the front tried on the small volume, one computed list
   pub front-steps : FrontSteps
   -- Private means private: "over any run from a formatted volume, a caller who is neither owner nor user 0 and never offered the right code
-  -- never gets a byte of a file with a code other than 0"; "Old volumes have 0 there and stay sound"
+  -- never gets a byte of a file with a code other than 0"; "Old volumes have 0 there" (and are sound once they are brought up)
   pub read-by-right : ReadByRight
   pub read-by-right-through : ReadByRightThrough
   pub never-a-byte : NeverAByte
   pub only-reads-hand-over : OnlyReadsHandOver
   pub old-volumes : OldVolumes
+  -- Keep the record count: "A volume is sound only if each stored count equals the count of the stream. Every operation keeps it true"
+  pub stored-counts : StoredCounts
+  pub stored-counts-stay : StoredCountsStay
+  -- "a new call, `bring_up`: accepts exactly the volumes sound by the old rule and writes the counts and nothing else; all others $6F";
+  -- what the old program made from a formatted volume is one of them
+  pub bring-up-exactly : BringUpExactly
+  pub accepted-bring-up : AcceptedBringUp
+  pub sound-already : SoundAlready
   -- Each public call's statement settles answer, image, desk and buffer in all cases: at most one outcome satisfies it
   pub one-outcome : OneOutcome
   -- A program that refuses everything is shut out, and so is one that answers $00 to everything,

@@ -10,7 +10,7 @@ use Rattle.desk.specs.Calls.{Allocate, Assign}
 use Rattle.front.specs.Areas.{areas-open}
 use Rattle.front.specs.Blocks.{request-open}
 use Rattle.front.specs.Front.{Served, Lent, lent, Ended, ended, front, front-open}
-use Rattle.promises.specs.Fronts.{Request, Iocb, Formats, Calls, leaves}
+use Rattle.promises.specs.Fronts.{Request, Iocb, Formats, BringsUp, Calls, leaves}
 use Rattle.promises.specs.Steps.{descOf, desc, service-open}
 
 -- what a request makes of what the last one left; only a block has areas
@@ -20,6 +20,7 @@ over-bytes v = ended (v .returned) (lent [] (v .image) (v .desk) [] [])
 left-by : Request → Lent → Ended
 left-by (Iocb caller b t s) l = front caller (lent b (l .image) (l .desk) t s)
 left-by (Formats id n) l = over-bytes (leaves (Formats id n) (l .image) (l .desk))
+left-by BringsUp l = over-bytes (leaves BringsUp (l .image) (l .desk))
 left-by (Calls c) l = over-bytes (leaves (Calls c) (l .image) (l .desk))
 
 -- of each request what is returned, the block and the areas, and the twelve bytes of LUN 0
@@ -42,6 +43,8 @@ iocb code f high low num start end =
 pub requests : List Request
 requests =
     Formats (0x56 ∷ 0x4F ∷ 0x4C ∷ 0x31 ∷ []) 1
+    -- no records yet
+    ∷ BringsUp
     ∷ Calls (Allocate 5 (desc 89) 1 0 0 9)
     ∷ Calls (Assign 5 0 (desc 89) 4 false 8)
     -- "ABC" is written from bytes 1 to 3 of the task's area, read as record 0 into the shared segment's first four bytes, and asked for
@@ -51,11 +54,14 @@ requests =
     ∷ Iocb 5 (iocb 0 1 0x60 0x08 0 0x80000000 0x80000004) (0x40 ∷ []) (0xDD ∷ 0xDD ∷ 0xDD ∷ 0xDD ∷ [])
     -- a rewind
     ∷ Iocb 5 (iocb 1 2 0x00 0x00 0 9 0) [] []
+    -- the volume has its counts
+    ∷ BringsUp
     ∷ []
 
 pub settledRequests : List (List ℕ)
 settledRequests =
     (0x00 ∷ 0 ∷ 0 ∷ 0 ∷ 0 ∷ 0 ∷ 0 ∷ 0 ∷ 0 ∷ 0 ∷ 0 ∷ 0 ∷ 0 ∷ [])
+    ∷ (0x00 ∷ 0 ∷ 0 ∷ 0 ∷ 0 ∷ 0 ∷ 0 ∷ 0 ∷ 0 ∷ 0 ∷ 0 ∷ 0 ∷ 0 ∷ [])
     ∷ (0x00 ∷ 0 ∷ 0 ∷ 0 ∷ 0 ∷ 0 ∷ 0 ∷ 0 ∷ 0 ∷ 0 ∷ 0 ∷ 0 ∷ 0 ∷ [])
     -- mode 4, user 5, slot 0, code 8, Fresh
     ∷ (0x00 ∷ 1 ∷ 4 ∷ 0 ∷ 5 ∷ 0 ∷ 0 ∷ 8 ∷ 0 ∷ 0 ∷ 0 ∷ 0 ∷ 0 ∷ [])
@@ -79,6 +85,8 @@ settledRequests =
     ∷ (1 ∷ 2 ∷ 0x00 ∷ 0x00 ∷ 0x00 ∷ 0 ∷ 0xEE ∷ 0xEE ∷ 0 ∷ 0 ∷ 0 ∷ 0 ∷ 0 ∷ 0 ∷ 0 ∷ 9 ∷ 0 ∷ 0 ∷ 0 ∷ 0 ∷ 0 ∷ 0 ∷ 0 ∷ 0 ∷ 0xEE ∷ 0xEE ∷ 0xEE
     ∷ 0xEE ∷ [])
     ++ (1 ∷ 4 ∷ 0 ∷ 5 ∷ 0 ∷ 0 ∷ 8 ∷ 0 ∷ 0 ∷ 0 ∷ 0 ∷ 0 ∷ []))
+    -- $6F; the desk bytes are not looked at
+    ∷ (0x6F ∷ 1 ∷ 4 ∷ 0 ∷ 5 ∷ 0 ∷ 0 ∷ 8 ∷ 0 ∷ 0 ∷ 0 ∷ 0 ∷ 0 ∷ [])
     ∷ []
 
 unfoldable pub begun : Ended

@@ -15,10 +15,11 @@ use Rattle.work.specs.Transfers.{storedAs, handedAs}
 use Rattle.deskbytes.specs.DeskBytes.{deskSize, deskForm}
 use Rattle.desk.specs.Desk.{State, state, emptyDesk, fileOf, aimed}
 use Rattle.desk.specs.Answers.{Outcome, moved}
-use Rattle.desk.specs.Calls.{Call, Format, rules, sent, step}
+use Rattle.desk.specs.Calls.{Call, Format, BringUp, rules, sent, step}
 use Rattle.front.specs.Blocks.{blockSize, functionOf, optionsOf, lunIn, numberIn, startIn, endIn, selectorIn, formattedIn, isTransfer}
 use Rattle.front.specs.Areas.{namesShared, offset, area, partNamed}
-use Rattle.front.specs.Front.{packedDesk, unpackedDesk, Served, served, serve, serveFormat, serveCheck, Lent, lent, Ended, ended}
+use Rattle.front.specs.Front.{packedDesk, unpackedDesk, Served, served, serve, serveFormat, serveCheck, serveBringUp, Lent, lent, Ended}
+use Rattle.front.specs.Front.{ended}
 use Rattle.front.specs.Front.{frontRules, asked}
 use Rattle.front.specs.Front.{front}
 use Rattle.promises.specs.Answers.{statusTable}
@@ -32,11 +33,12 @@ use Rattle.promises.specs.Sectors.{Bytes, Accepts, Good, InOrder}
 abbrev pub stateOf : Lent → State
 stateOf l = state (l .image) (unpackedDesk (l .desk))
 
--- A request of the gateway: a request block with its areas, format, or another call over image and desk bytes; what it returns, and image
--- and desk bytes after it
+-- A request of the gateway: a request block with its areas, format, bring-up, or another call over image and desk bytes; what it returns,
+-- and image and desk bytes after it
 pub data Request : Type 0 where
   Iocb : (caller : ℕ) (block task shared : List ℕ) → Request
   Formats : (id : List ℕ) (dirs : ℕ) → Request
+  BringsUp : Request
   Calls : (call : Call) → Request
 
 unfoldable pub leaves : Request → List ℕ → List ℕ → Served
@@ -44,6 +46,7 @@ leaves (Iocb caller b t s) img bs =
     served (front caller (lent b img bs t s) .returned) (front caller (lent b img bs t s) .left .image)
     (front caller (lent b img bs t s) .left .desk)
 leaves (Formats id n) img bs = serveFormat id n img bs
+leaves BringsUp img bs = serveBringUp img bs
 leaves (Calls c) img bs = serve c img bs
 
 -- Demand 1: "every call ends with an answer from the status table"
@@ -173,6 +176,7 @@ unfoldable pub visitBy : Request → List ℕ → List ℕ → List Visit
 visitBy (Iocb caller b t s) img bs =
     ruled (frontRules (lent b img bs t s)) (λ why. []) (visit (unpackedDesk bs) (asked caller (lent b img bs t s)) ∷ [])
 visitBy (Formats id n) img bs = ruled (NotSound if not (eqb (length bs) deskSize) ∷ []) (λ why. []) (visit emptyDesk (Format id n) ∷ [])
+visitBy BringsUp img bs = visit emptyDesk BringUp ∷ []
 visitBy (Calls c) img bs = ruled (NotSound if not (deskForm bs) ∷ []) (λ why. []) (visit (unpackedDesk bs) c ∷ [])
 
 -- requests, each with whatever desk bytes come with it, and the image that the last one left: they are visits
@@ -217,6 +221,7 @@ pub record SameRun (rs : List Request) (img : List ℕ) (bs : List ℕ) (s : Sta
 abbrev pub BytesSent : Request → Type 0
 BytesSent (Iocb caller b t s) = Bytes t × Bytes s
 BytesSent (Formats id n) = Bytes id
+BytesSent BringsUp = Unit {0}
 BytesSent (Calls c) = Bytes (sent c)
 
 abbrev pub RequestBytes : List Request → Type 0
@@ -243,4 +248,6 @@ pub record OneEnding : Type 0 where
       → served n′ a′ b′ ≡ serve c img bs → (n ≡ n′) × (a ≡ a′) × (b ≡ b′)
   pub of-format : (id : List ℕ) (dirs : ℕ) (img bs : List ℕ) (n n′ : ℕ) (a a′ b b′ : List ℕ) → served n a b ≡ serveFormat id dirs img bs
       → served n′ a′ b′ ≡ serveFormat id dirs img bs → (n ≡ n′) × (a ≡ a′) × (b ≡ b′)
+  pub of-bring-up : (img : List ℕ) (n n′ : ℕ) (a a′ : List ℕ) → served n a [] ≡ serveBringUp img [] → served n′ a′ [] ≡ serveBringUp img []
+      → (n ≡ n′) × (a ≡ a′)
   pub of-check : (img : List ℕ) (n n′ : ℕ) → n ≡ serveCheck img → n′ ≡ serveCheck img → n ≡ n′

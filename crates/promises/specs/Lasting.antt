@@ -9,7 +9,7 @@ use lib.ListN.{length}
 use Rattle.lists.specs.Lists.{_and_}
 use Rattle.lists.specs.Parts.{over, part}
 use Rattle.text.specs.Packing.{packed}
-use Rattle.volume.specs.Directory.{entryAt, contiguous}
+use Rattle.volume.specs.Directory.{entryAt, contiguous, SameButCount}
 use Rattle.files.specs.Files.{extent}
 use Rattle.work.specs.Transfers.{asText, storedAs, handedAs}
 use Rattle.desk.specs.Desk.{State, fileOf, aimed}
@@ -38,9 +38,10 @@ AppendEndsNone =
     → contiguous (fileOf s lun) ≡ false → (k i : ℕ) → i < extent (s .image) (entryAt (s .image) k)
     → ends (touch (Write caller lun sel num fmt bs) s) k i ≡ false
 
--- Any record or sector of a sound volume, whatever calls, refused ones among them, come after
+-- Any record or sector of a sound volume, whatever calls, refused ones among them, come after. (The file's entry is the same but for its
+-- record count, which appends raise)
 pub record Lasting (img img′ : List ℕ) (k i : ℕ) : Type 0 where
-  pub same-entry : entryAt img′ k ≡ entryAt img k
+  pub same-but-count : SameButCount (entryAt img k) (entryAt img′ k)
   pub still-there : i < extent img′ (entryAt img k)
   pub same-unit : unitAt img′ k i ≡ unitAt img k i
 

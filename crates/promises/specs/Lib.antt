@@ -15,4 +15,5 @@ pub mod Counts
 pub mod Conclusions
 pub mod DeskBytes
 pub mod Private
+pub mod BroughtUp
 pub mod Demands

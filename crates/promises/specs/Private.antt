@@ -13,7 +13,7 @@ use Rattle.volume.specs.Volume.{sound1}
 use Rattle.volume.specs.Directory.{entries, entryAt, unused, kind, owner, described, readCode, extentGood, namesDiffer}
 use Rattle.ownership.specs.Blocks.{sound3}
 use Rattle.ownership.specs.Owners.{sound5}
-use Rattle.files.specs.Files.{sound4, sound}
+use Rattle.files.specs.Files.{sound4, countsAre, noCount, soundBefore}
 use Rattle.files.specs.Rights.{hasRight, mayRead}
 use Rattle.work.specs.declared.Refusal.the-variants.{NotSound}
 use Rattle.desk.specs.declared.Answer.the-variants.{Refused}
@@ -86,18 +86,18 @@ OnlyReadsHandOver =
     (c : Call) (s : State)
     → ((caller lun sel num : ℕ) (fmt : Bool) (buf : List ℕ) → c ≢ Read caller lun sel num fmt buf) → step c s .buffer ≡ given c
 
--- "Old volumes have 0 there and stay sound": soundness as it was, with bytes 22-23 of an entry zero
-unfoldable pub validBefore : List ℕ → Bool
-validBefore e =
-    eqb (byte e 0) 1 and leb (kind e) 1 and descriptor (described e) and eqb (word e 22) 0 and eqb (word e 30) 0 and extentGood e
+-- "Old volumes have 0 there": soundness as it was before there were codes, with bytes 22-23 of an entry zero. They had no record counts
+-- either; bytes 28-31 of a sequential entry were zero
+unfoldable pub validBeforeCodes : List ℕ → Bool
+validBeforeCodes e = eqb (byte e 0) 1 and leb (kind e) 1 and descriptor (described e) and eqb (word e 22) 0 and extentGood e
 
-unfoldable pub soundBefore : List ℕ → Bool
-soundBefore img =
-    sound1 img and (all (λ e. unused e or validBefore e) (entries img) and namesDiffer (entries img)) and sound3 img and sound4 img
-    and sound5 img
+unfoldable pub soundBeforeCodes : List ℕ → Bool
+soundBeforeCodes img =
+    sound1 img and (all (λ e. unused e or validBeforeCodes e) (entries img) and namesDiffer (entries img)) and sound3 img and sound4 img
+    and sound5 img and countsAre noCount img
 
--- .. and every file on them is for everyone to read, whatever code is offered
+-- .. such volumes can be brought up, and every file on them is for everyone to read, whatever code is offered
 pub record OldVolumes : Type 0 where
-  pub stay-sound : (img : List ℕ) → soundBefore img ≡ true → sound img ≡ true
-  pub stay-readable : (img : List ℕ) → soundBefore img ≡ true → (k : ℕ) → File img k
+  pub can-be-brought-up : (img : List ℕ) → soundBeforeCodes img ≡ true → soundBefore img ≡ true
+  pub stay-readable : (img : List ℕ) → soundBeforeCodes img ≡ true → (k : ℕ) → File img k
       → (caller offered : ℕ) → mayRead caller offered (entryAt img k) ≡ true

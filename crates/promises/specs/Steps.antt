@@ -9,7 +9,7 @@ use Rattle.lists.specs.Parts.{part, parts-open}
 use Rattle.text.specs.Packing.{packing-open}
 use Rattle.volume.specs.Volume.{sat, trailer, volume-open}
 use Rattle.volume.specs.Sat.{one, free, sat-open}
-use Rattle.volume.specs.Directory.{entryAt, start, directory-open}
+use Rattle.volume.specs.Directory.{entryAt, start, withCount, putEntry, directory-open}
 use Rattle.volume.specs.Names.{names-open}
 use Rattle.volume.specs.Formatted.{formatted-open}
 use Rattle.records.specs.Records.{records-open}
@@ -25,7 +25,7 @@ use Rattle.luns.specs.Luns.{luns-open}
 use Rattle.work.specs.Refusals.{refusals-open}
 use Rattle.work.specs.Volumes.{volumes-open}
 use Rattle.work.specs.Transfers.{transfers-open}
-use Rattle.desk.specs.Calls.{Call, Format, Allocate, Assign, Delete, Read, Write, Update, calls-open}
+use Rattle.desk.specs.Calls.{Call, Format, BringUp, Allocate, Assign, Rewind, Delete, Read, Write, Update, calls-open}
 use Rattle.desk.specs.Answers.{Outcome, status, moved, answers-open}
 use Rattle.desk.specs.Desk.{state, State, emptyDesk, desk-open}
 use Rattle.promises.specs.Runs.{trace, next}
@@ -57,6 +57,10 @@ desc = descOf 5
 -- the SAT's bytes 0 and 1, and whether all others are FF
 pub sat2 : List ℕ → List ℕ
 sat2 img = take 2 (sat img) ++ (one (same (drop 2 (sat img)) (replicate 254 0xFF)) ∷ [])
+
+-- slot k's bytes 28-31, a sequential file's record count
+pub countBytes : ℕ → List ℕ → List ℕ
+countBytes k img = part 28 4 (entryAt img k)
 
 -- slot k's bytes 22-23; its first sector or access block; E; the segments; the physical sector of logical sector 1
 pub codeBytes : ℕ → List ℕ → List ℕ
@@ -90,20 +94,25 @@ story =
       call = Format (0x56 ∷ 0x4F ∷ 0x4C ∷ 0x31 ∷ []) 1;
       look = λ img. take 8 (trailer img) ++ (sat2 img ++ (free img ∷ []));
     }
+    -- 14, of a volume with no records
+    ∷ record { call = BringUp; look = λ img. free img ∷ [] }
     -- 2, 3
     ∷ record { call = Allocate 5 (desc 88) 0 3 0 0; look = λ img. at 0 img ∷ sat2 img }
-    ∷ record { call = Allocate 5 (desc 89) 1 0 0 0; look = λ img. at 1 img ∷ bytesIn 1 img ∷ (segments 1 img ++ sat2 img) }
+    ∷ record {
+      call = Allocate 5 (desc 89) 1 0 0 0;
+      look = λ img. at 1 img ∷ bytesIn 1 img ∷ (segments 1 img ++ (sat2 img ++ countBytes 1 img));
+    }
     -- 4
     ∷ record { call = Assign 5 0 (desc 89) 4 false 0; look = λ img. [] }
     ∷ record {
       call = Write 5 0 0 0 false (0x41 ∷ 0x42 ∷ 0x43 ∷ []);
-      look = λ img. stream img (entryAt img 1) ++ (bytesIn 1 img ∷ (segments 1 img ++ sat2 img));
+      look = λ img. stream img (entryAt img 1) ++ (bytesIn 1 img ∷ (segments 1 img ++ (sat2 img ++ countBytes 1 img)));
     }
     -- 5, 6
     ∷ record { call = Delete 5 (desc 88); look = sat2 }
     ∷ record {
       call = Write 5 0 0 0 false (replicate 250 1);
-      look = λ img. bytesIn 1 img ∷ (segments 1 img ++ (sat2 img ++ (second 1 img ∷ free img ∷ [])));
+      look = λ img. bytesIn 1 img ∷ (segments 1 img ++ (sat2 img ++ (second 1 img ∷ free img ∷ countBytes 1 img)));
     }
     -- 7 and 8 are asked of the volume after step 6: the refused ones, which leave it, come first
     ∷ record { call = Allocate 5 (desc 88) 0 8 0 0; look = λ img. free img ∷ [] }
@@ -127,27 +136,55 @@ story =
     ∷ record { call = Assign 6 1 (desc 90) 0 false 7; look = λ img. [] }
     ∷ record { call = Assign 0 2 (desc 90) 0 false 0; look = λ img. [] }
     ∷ record { call = Assign 5 3 (desc 90) 4 false 0; look = λ img. [] }
+    -- 14, of a volume with records
+    ∷ record { call = BringUp; look = countBytes 1 }
     ∷ []
+
+-- 14: the volume as it would be from before there were counts, with 0 for file Y's: calls refuse it, and bring-up makes it what it was
+asBefore : State → State
+asBefore s = state (putEntry (s .image) 1 (withCount 0 (entryAt (s .image) 1)) (s .image)) (s .desk)
+
+renewal : State → List Step
+renewal s =
+    record { call = Rewind 5 0; look = countBytes 1 }
+    ∷ record { call = BringUp; look = λ img. one (same img (s .image)) ∷ countBytes 1 img }
+    ∷ record { call = BringUp; look = λ img. one (same img (s .image)) ∷ [] }
+    ∷ record { call = Rewind 5 0; look = λ img. [] }
+    ∷ []
+
+renewed : State → List (List ℕ)
+renewed s = followed (renewal s) (asBefore s)
+
+-- what the last call left
+ending : List Outcome → State
+ending [] = blank
+ending (o ∷ []) = state (o .image) (o .desk)
+ending (o ∷ p ∷ os) = ending (p ∷ os)
+
+told : List Outcome → List (List ℕ)
+told os = shown story os ++ renewed (ending os)
 
 -- 9 asks the modes alone
 pub steps : List (List ℕ)
-steps = followed story blank ++ ((one (compatible Pr Ew) ∷ []) ∷ (one (compatible Pr Er) ∷ []) ∷ [])
+steps = told (trace (calls story) blank) ++ ((one (compatible Pr Ew) ∷ []) ∷ (one (compatible Pr Er) ∷ []) ∷ [])
 
 pub settled : List (List ℕ)
 settled =
     -- 1: the trailer, the SAT, 12 free
     (0 ∷ 0 ∷ 0x00 ∷ 0x10 ∷ 0x00 ∷ 0x0E ∷ 0x00 ∷ 0x0D ∷ 0x00 ∷ 0x01 ∷ 0xE0 ∷ 0x01 ∷ 1 ∷ 12 ∷ [])
+    -- 14: it stays as it is
+    ∷ (0 ∷ 0 ∷ 12 ∷ [])
     -- 2: start 3
     ∷ (0 ∷ 0 ∷ 3 ∷ 0xFC ∷ 0x01 ∷ 1 ∷ [])
-    -- 3: FAB 6, no data
-    ∷ (0 ∷ 0 ∷ 6 ∷ 0 ∷ 0xFE ∷ 0x01 ∷ 1 ∷ [])
+    -- 3: FAB 6, no data; the count is 0
+    ∷ (0 ∷ 0 ∷ 6 ∷ 0 ∷ 0xFE ∷ 0x01 ∷ 1 ∷ 0 ∷ 0 ∷ 0 ∷ 0 ∷ [])
     ∷ (0 ∷ 0 ∷ [])
-    -- 4: the stream, E = 6, segment (7,1)
-    ∷ (0 ∷ 3 ∷ 0x00 ∷ 0x03 ∷ 0x41 ∷ 0x42 ∷ 0x43 ∷ 0x00 ∷ 6 ∷ 0 ∷ 7 ∷ 0 ∷ 1 ∷ 0xFF ∷ 0x01 ∷ 1 ∷ [])
+    -- 4: the stream, E = 6, segment (7,1); the count is 1
+    ∷ (0 ∷ 3 ∷ 0x00 ∷ 0x03 ∷ 0x41 ∷ 0x42 ∷ 0x43 ∷ 0x00 ∷ 6 ∷ 0 ∷ 7 ∷ 0 ∷ 1 ∷ 0xFF ∷ 0x01 ∷ 1 ∷ 0 ∷ 0 ∷ 0 ∷ 1 ∷ [])
     -- 5
     ∷ (0 ∷ 0 ∷ 0xE3 ∷ 0x01 ∷ 1 ∷ [])
-    -- 6: E = 258, segments (7,1),(3,1), logical sector 1 is physical 3, 9 free
-    ∷ (0 ∷ 250 ∷ 258 ∷ 0 ∷ 7 ∷ 0 ∷ 1 ∷ 0 ∷ 3 ∷ 0 ∷ 1 ∷ 0xF3 ∷ 0x01 ∷ 1 ∷ 3 ∷ 9 ∷ [])
+    -- 6: E = 258, segments (7,1),(3,1), logical sector 1 is physical 3, 9 free; "the long word is 2"
+    ∷ (0 ∷ 250 ∷ 258 ∷ 0 ∷ 7 ∷ 0 ∷ 1 ∷ 0 ∷ 3 ∷ 0 ∷ 1 ∷ 0xF3 ∷ 0x01 ∷ 1 ∷ 3 ∷ 9 ∷ 0 ∷ 0 ∷ 0 ∷ 2 ∷ [])
     -- 7: 8 sectors are refused, though 9 are free
     ∷ (0x63 ∷ 0 ∷ 9 ∷ [])
     -- 8: write record 3 with two there; write record 1; update record 0 by 4 bytes
@@ -174,6 +211,13 @@ settled =
     ∷ (0 ∷ 0 ∷ [])
     ∷ (0 ∷ 0 ∷ [])
     ∷ (0 ∷ 0 ∷ [])
+    -- 14: the volume has its counts, and there are three records
+    ∷ (0x6F ∷ 0 ∷ 0 ∷ 0 ∷ 0 ∷ 3 ∷ [])
+    -- 14, of the volume as before: rewind is refused; the counts are written, and that is all; it is done once; rewind is accepted
+    ∷ (0x6F ∷ 0 ∷ 0 ∷ 0 ∷ 0 ∷ 0 ∷ [])
+    ∷ (0 ∷ 0 ∷ 1 ∷ 0 ∷ 0 ∷ 0 ∷ 3 ∷ [])
+    ∷ (0x6F ∷ 0 ∷ 1 ∷ [])
+    ∷ (0 ∷ 0 ∷ [])
     -- 9: PR and EW are compatible, PR and ER are not
     ∷ (1 ∷ [])
     ∷ (0 ∷ [])
@@ -190,5 +234,6 @@ unfolding lists-open parts-open packing-open names-open volume-open directory-op
 service-open = tt
 
 pub small-volume : SmallVolume
-unfolding steps settled story blank followed shown trace next descOf desc sat2 codeBytes at bytesIn segments second added service-open
+unfolding steps settled story blank followed shown trace next descOf desc sat2 countBytes codeBytes at bytesIn segments second added
+    asBefore renewal renewed ending told service-open
 small-volume = refl

@@ -3,13 +3,14 @@ use mathlib.Core.Bool.{Bool, true, false}
 use Prim.Native.Nat.{ℕ, _+_}
 use lib.Dec.{eqb, leb, ltb}
 use Rattle.lists.specs.Lists.{_and_}
-use Rattle.desk.specs.Calls.{Touch, Nothing, OneFile, Units, WhereFilesLie, Everything}
+use Rattle.desk.specs.Calls.{Touch, Nothing, OneFile, Units, RecordCounts, WhereFilesLie, Everything}
 
--- whether the file in slot k may change, be it in its bytes or in where they lie
+-- whether the file in slot k may change, be it in its bytes, in its entry or in where it lies
 unfoldable pub changes : Touch → ℕ → Bool
 changes Nothing k = false
 changes (OneFile j) k = eqb j k
 changes (Units j i n) k = eqb j k
+changes RecordCounts k = true
 changes WhereFilesLie k = true
 changes Everything k = true
 
@@ -19,5 +20,6 @@ unfoldable pub ends : Touch → ℕ → ℕ → Bool
 ends Nothing k u = false
 ends (OneFile j) k u = eqb j k
 ends (Units j i n) k u = eqb j k and leb i u and ltb u (i + n)
+ends RecordCounts k u = false
 ends WhereFilesLie k u = false
 ends Everything k u = true

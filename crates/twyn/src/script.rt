@@ -10,45 +10,47 @@ pub(crate) const POKE: usize = 1;
 
 pub(crate) const FORMAT: usize = 2;
 
-pub(crate) const ALLOCATE: usize = 3;
+pub(crate) const BRING_UP: usize = 3;
 
-pub(crate) const DELETE: usize = 4;
+pub(crate) const ALLOCATE: usize = 4;
 
-pub(crate) const WRITE: usize = 5;
+pub(crate) const DELETE: usize = 5;
 
-pub(crate) const WRITE_TEXT: usize = 6;
+pub(crate) const WRITE: usize = 6;
 
-pub(crate) const UPDATE: usize = 7;
+pub(crate) const WRITE_TEXT: usize = 7;
 
-pub(crate) const UPDATE_TEXT: usize = 8;
+pub(crate) const UPDATE: usize = 8;
 
-pub(crate) const IOCB: usize = 9;
+pub(crate) const UPDATE_TEXT: usize = 9;
 
-pub(crate) const IOCB_WITH: usize = 10;
+pub(crate) const IOCB: usize = 10;
 
-pub(crate) const CHECK: usize = 11;
+pub(crate) const IOCB_WITH: usize = 11;
 
-pub(crate) const ASSIGN: usize = 12;
+pub(crate) const CHECK: usize = 12;
 
-pub(crate) const CLOSE: usize = 13;
+pub(crate) const ASSIGN: usize = 13;
 
-pub(crate) const REWIND: usize = 14;
+pub(crate) const CLOSE: usize = 14;
 
-pub(crate) const READ: usize = 15;
+pub(crate) const REWIND: usize = 15;
 
-pub(crate) const READ_TEXT: usize = 16;
+pub(crate) const READ: usize = 16;
 
-pub(crate) const SECTOR: usize = 17;
+pub(crate) const READ_TEXT: usize = 17;
 
-pub(crate) const DESK: usize = 18;
+pub(crate) const SECTOR: usize = 18;
 
-pub(crate) const DESK_BYTES: usize = 19;
+pub(crate) const DESK: usize = 19;
 
-pub(crate) const SUM: usize = 20;
+pub(crate) const DESK_BYTES: usize = 20;
 
-pub(crate) const UNREADABLE: usize = 21;
+pub(crate) const SUM: usize = 21;
 
-pub(crate) const NOTHING: usize = 22;
+pub(crate) const UNREADABLE: usize = 22;
+
+pub(crate) const NOTHING: usize = 23;
 
 /// What a request lends beside the image: its block, the task's own area and the shared segment.
 pub(crate) struct Lent {
@@ -76,8 +78,8 @@ pub(crate) struct Call {
 // Which command the word names.
 fn named(word: &[u8]) -> usize {
     let names =
-        b"new poke format allocate delete write write-text update update-text iocb iocb-with check assign \
-          close rewind read read-text sector desk desk-bytes sum";
+        b"new poke format bring-up allocate delete write write-text update update-text iocb iocb-with check \
+          assign close rewind read read-text sector desk desk-bytes sum";
     let mut k = 0;
     while k < UNREADABLE {
         if same_bytes(word, words::word(names, k)) {
@@ -92,7 +94,7 @@ fn named(word: &[u8]) -> usize {
 fn words_of(command: usize) -> usize {
     match command {
         UNREADABLE => 0,
-        CHECK | DESK | DESK_BYTES | SUM => 1,
+        BRING_UP | CHECK | DESK | DESK_BYTES | SUM => 1,
         NEW | SECTOR => 2,
         POKE | FORMAT | DELETE | CLOSE | REWIND => 3,
         IOCB => 5,

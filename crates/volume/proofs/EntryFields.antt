@@ -1,6 +1,6 @@
 -- An entry's fields, read back.
 use mathlib.Core.Path.{_≡_, refl, sym, ap, _∙_}
-use mathlib.Core.Bool.{true, false}
+use mathlib.Core.Bool.{Bool, true, false}
 use mathlib.Core.List.{List, [], _∷_, _++_}
 use Prim.Native.Nat.{ℕ, _+_, _*_, _/_, _%_, _≤_}
 use native.Mathlib.Omega.{arith}
@@ -11,9 +11,9 @@ use borrow.Author.Tests.{eqb-true, le-leb}
 use Rattle.numbers.specs.Numbers.{recordLimit}
 use Rattle.lists.specs.Lists.{_and_, if_then_else_, all}
 use Rattle.lists.specs.Parts.{byte, word, bytes2, part}
-use Rattle.lists.proofs.Tests.{and-left, both-true}
+use Rattle.lists.proofs.Tests.{and-left, and-right, both-true}
 use Rattle.volume.specs.Names.{descriptor, userOf}
-use Rattle.volume.specs.Directory.{unused, kind, contiguous, owner, described, readCode, recordLength, start, size, Fields, entry}
+use Rattle.volume.specs.Directory.{unused, kind, contiguous, owner, described, readCode, recordLength, start, size, recordCount, Fields, entry}
 use Rattle.volume.specs.Directory.{codeAllowed, valid, named}
 
 pub descriptor-length : (d : List ℕ) → descriptor d ≡ true → length d ≡ 20
@@ -93,6 +93,10 @@ module _ (f : Fields) where
     unfolding entry rest
     entry-30 = at-word 8 28 0 refl refl refl
 
+    -- a file of no sectors has no records
+    pub entry-count : f .size ≡ 0 → recordCount (entry f) ≡ 0
+    entry-count z = let s = entry-size in let t = entry-30 in omega (arith, z)
+
   pub entry-named : (h : length (f .described) ≡ 20) (x : List ℕ) → named (described (entry f)) x ≡ named (f .described) x
   entry-named h x = rw (entry-described h)
 
@@ -102,4 +106,9 @@ module _ (f : Fields) where
   entry-valid hd hk ha z =
       let h : length (f .described) ≡ 20 = descriptor-length (f .described) hd in
       rw (entry-described h, entry-22 h, entry-readCode h, entry-owner h, entry-30 h, entry-contiguous, entry-size h, entry-recordLength h)
-      (both-true _ _ (both-true _ _ (both-true _ _ (both-true _ _ (both-true _ _ (both-true _ _ refl (le-leb (f .kind) 1 hk)) hd) refl) ha) refl) z)
+      (both-true _ _ (both-true _ _ (both-true _ _ (both-true _ _ (both-true _ _ refl (le-leb (f .kind) 1 hk)) hd) refl) ha) (go (eqb (f .kind) 0) z))
+    where
+      go : (b : Bool) → (if b then leb 1 (f .size) and eqb (f .recordLength) 0 else eqb (f .size) 0 and leb (f .recordLength) recordLimit) ≡ true
+          → (if b then leb 1 (f .size) and true and eqb (f .recordLength) 0 else leb (f .recordLength) recordLimit) ≡ true
+      go true h = both-true _ _ (both-true _ _ (and-left _ _ h) refl) (and-right _ _ h)
+      go false h = and-right _ _ h

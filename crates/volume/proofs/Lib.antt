@@ -1,8 +1,10 @@
 pub mod BitShifts
 pub mod Bits
 pub mod BitsSet
+pub mod EntriesMade
 pub mod EntryBytes
 pub mod EntryClashes
+pub mod EntryCounted
 pub mod EntryFields
 pub mod EntryWritten
 pub mod Formatted

@@ -1,11 +1,12 @@
 -- The directory's entries, their fields, and point 2 of soundness. Defines RULES, The directory; Soundness (point 2).
 use mathlib.Core.List.{List, [], _∷_, _++_}
 use mathlib.Core.Bool.{Bool, not, true}
+use mathlib.Core.Path.{_≡_}
 use Prim.Native.Nat.{ℕ, _*_, _+_}
 use lib.ListN.{getD}
 use lib.Dec.{eqb, leb}
 use Rattle.numbers.specs.Numbers.{recordLimit}
-use Rattle.lists.specs.Parts.{part, zeros, byte, word, bytes2, put}
+use Rattle.lists.specs.Parts.{part, zeros, byte, word, long, bytes2, bytes4, put}
 use Rattle.lists.specs.Lists.{pieces, _and_, if_then_else_, same, all, _or_}
 use Rattle.volume.specs.Volume.{dirAt, dirs}
 use Rattle.volume.specs.Names.{descriptor}
@@ -38,7 +39,8 @@ described e = part 2 20 e
 abbrev pub readCode : List ℕ → ℕ
 readCode e = byte e 23
 
--- RULES, The directory: bytes 24-25 are the record length, 26-27 the first sector or the access block's, 28-29 the sectors
+-- RULES, The directory: bytes 24-25 are the record length, 26-27 the first sector or the access block's, 28-29 the sectors of a contiguous
+-- file, 28-31 the record count of a sequential one
 abbrev pub recordLength : List ℕ → ℕ
 recordLength e = word e 24
 
@@ -48,7 +50,11 @@ start e = word e 26
 abbrev pub size : List ℕ → ℕ
 size e = word e 28
 
--- the fields of an entry in use, and the entry that has them; RULES, The directory: byte 0 is 1, bytes 22 and 30-31 are zero
+abbrev pub recordCount : List ℕ → ℕ
+recordCount e = long e 28
+
+-- the fields of a new file's entry, and the entry that has them; RULES, The directory: byte 0 is 1, byte 22 is zero, and so are 30-31: of a
+-- sequential file, whose size is 0, that is a record count of 0
 pub record Fields : Type 0 where
   pub kind : ℕ
   pub described : List ℕ
@@ -65,10 +71,17 @@ entry f =
     1 ∷ f .kind ∷ (f .described
     ++ (0 ∷ f .readCode ∷ (bytes2 (f .recordLength) ++ (bytes2 (f .start) ++ (bytes2 (f .size) ++ (0 ∷ 0 ∷ []))))))
 
--- RULES, The directory: sectors and record length of a contiguous and of a sequential file
+-- RULES, The directory: the entry with another record count; the same of a sequential file's, and any other entry as it is
+unfoldable pub withCount : ℕ → List ℕ → List ℕ
+withCount n e = put 28 (bytes4 n) e
+
+unfoldable pub countedAs : ℕ → List ℕ → List ℕ
+countedAs n e = if unused e or contiguous e then e else withCount n e
+
+-- RULES, The directory: sectors and record length of a contiguous file, record length of a sequential one
 abbrev pub extentGood : List ℕ → Bool
 extentGood e =
-    if contiguous e then leb 1 (size e) and eqb (recordLength e) 0 else eqb (size e) 0 and leb (recordLength e) recordLimit
+    if contiguous e then leb 1 (size e) and eqb (word e 30) 0 and eqb (recordLength e) 0 else leb (recordLength e) recordLimit
 
 -- RULES, The directory: files of user 0 have code 0
 unfoldable pub codeAllowed : ℕ → ℕ → Bool
@@ -78,7 +91,7 @@ codeAllowed user rc = not (eqb user 0) or eqb rc 0
 unfoldable pub valid : List ℕ → Bool
 valid e =
     eqb (byte e 0) 1 and leb (kind e) 1 and descriptor (described e) and eqb (byte e 22) 0 and codeAllowed (owner e) (readCode e)
-    and eqb (word e 30) 0 and extentGood e
+    and extentGood e
 
 -- RULES, Names and descriptors: the entry whose bytes 2-21 equal a descriptor; RULES, The directory: two entries that clash
 unfoldable pub named : List ℕ → List ℕ → Bool
@@ -99,6 +112,17 @@ sound2 img = all (λ e. unused e or valid e) (entries img) and namesDiffer (entr
 unfoldable pub putEntry : List ℕ → ℕ → List ℕ → List ℕ → List ℕ
 putEntry v k e img = put (256 * dirAt v + 32 * k) e img
 
+-- Two entries of one file, which are the same but for the record count of a sequential one: in use or not, type, name, read-protect code,
+-- record length, first sector
+pub record SameButCount (e e′ : List ℕ) : Type 0 where
+  pub use-same : unused e′ ≡ unused e
+  pub kind-same : kind e′ ≡ kind e
+  pub name-same : described e′ ≡ described e
+  pub code-same : readCode e′ ≡ readCode e
+  pub length-same : recordLength e′ ≡ recordLength e
+  pub start-same : start e′ ≡ start e
+  pub contiguous-same : contiguous e ≡ true → e′ ≡ e
+
 unfoldable pub directory-open : Unit {0}
-unfolding entries entryAt contiguous described entry codeAllowed valid named clashes namesDiffer sound2 putEntry
+unfolding entries entryAt contiguous described entry withCount countedAs codeAllowed valid named clashes namesDiffer sound2 putEntry
 directory-open = tt

@@ -3,11 +3,12 @@ ghost use Rattle.lists.specs.Lists.{_or_, all, index};
 ghost use mathlib.Core.Path.{_≡_};
 ghost use Prim.Native.Nat.{_+_, _*_, _<_, _≤_};
 ghost use Rattle.volume.specs.Directory.{entryAt, unused, kind, contiguous, owner, readCode, codeAllowed, recordLength, start, size};
+ghost use Rattle.volume.specs.Directory.{recordCount, countedAs};
 ghost use Rattle.volume.specs.Directory.{fields, entry, extentGood, valid, entries, clashes, namesDiffer, sound2, named};
 ghost use Rattle.volume.specs.Code.Located.{Located, entryByte, EntryIn};
 ghost use lib.ListN.{length, drop};
 ghost use Rattle.numbers.specs.Numbers.{mostSectors, mostDirs};
-ghost use Rattle.lists.specs.Parts.{put, bytes2, blanks};
+ghost use Rattle.lists.specs.Parts.{part, put, bytes2, blanks};
 ghost use mathlib.Core.List.{[], _∷_, _++_};
 ghost use mathlib.Core.Bool.{false, not};
 ghost use Rattle.volume.specs.Code.Found.{foundOf};
@@ -16,6 +17,8 @@ use crate::names::descriptor;
 use lists::parts::all_zero;
 use lists::parts::clear;
 use lists::parts::copy_in;
+use lists::parts::long_at;
+use lists::parts::put_long;
 use lists::parts::put_word;
 use lists::parts::same_bytes;
 use lists::parts::sector_of;
@@ -107,17 +110,24 @@ pub fn size(e: &[u8]) -> usize
     word_at(e, 28)
 }
 
-// A contiguous file has sectors and no record length; a sequential one has its sectors in its access block, and may have a length.
+/// The record count of a sequential file.
+pub fn record_count(e: &[u8]) -> usize
+    requires { ⌜ length (now e) ≡ 32 ⌝ }
+    ensures { λ r. ⌜ (r ≡ recordCount (now (e .entry))) × (r < 4294967296) ⌝ }
+{
+    long_at(e, 28)
+}
+
+// A contiguous file has sectors, zeros after their number and no record length; a sequential one may have a record length.
 fn extent_good(e: &[u8]) -> bool
     requires { ⌜ length (now e) ≡ 32 ⌝ }
     ensures { λ r. ⌜ r ≡ extentGood (now (e .entry)) ⌝ }
 {
-    let n = size(e);
     let long = record_length(e);
     if contiguous(e) {
-        return (1 <= n) & (long == 0);
+        return (1 <= size(e)) & (word_at(e, 30) == 0) & (long == 0);
     }
-    (n == 0) & (long <= RECORD_LIMIT)
+    long <= RECORD_LIMIT
 }
 
 /// Whether a file of this user may have this read-protect code: user 0's have none.
@@ -137,7 +147,6 @@ pub fn valid(e: &[u8]) -> bool
         & descriptor(&e[2..22])
         & (e[22] == 0)
         & code_allowed(owner(e), read_code(e))
-        & (word_at(e, 30) == 0)
         & extent_good(e)
 }
 
@@ -314,6 +323,28 @@ pub fn put_entry(
     let a = entry_at(p, k);
     let e = a + 32;
     put_fields(&mut img[a..e], desc, kind, read_code, len, s, n);
+}
+
+// The entry e with this record count, if it is a sequential file's.
+fn set_count(e: &mut [u8], n: usize)
+    requires { ⌜ (length (now e) ≡ 32) × (n < 4294967296) ⌝ }
+    ensures { λ _. ⌜ now (e .exit) ≡ countedAs n (now (e .entry)) ⌝ }
+{
+    if unused(e) | contiguous(e) {
+        return;
+    }
+    put_long(e, 28, n);
+}
+
+/// Gives the entry in slot k this record count, if it is a sequential file's; any other stays.
+pub fn put_count(img: &mut [u8], p: Layout, k: usize, n: usize)
+    requires { ⌜ EntryIn (now img) p k × (n < 4294967296) ⌝ }
+    ensures { λ _. ⌜ now (img .exit)
+        ≡ put (entryByte p k) (countedAs n (part (entryByte p k) 32 (now (img .entry)))) (now (img .entry)) ⌝ }
+{
+    let a = entry_at(p, k);
+    let e = a + 32;
+    set_count(&mut img[a..e], n);
 }
 
 /// Makes the entry in slot k an unused one.

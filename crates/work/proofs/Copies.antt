@@ -16,9 +16,9 @@ use Rattle.ownership.specs.Blocks.{streamLength, sectorsOf}
 use Rattle.files.specs.Files.{stream}
 use Rattle.files.specs.Code.Opens.{Opens, streamAt}
 use Rattle.files.specs.Code.Slots.{InUse}
-use Rattle.files.proofs.OpenBlock.{loaded, loaded-map}
-use Rattle.files.proofs.SlotInUse.{used-opens, used-stream}
-use Rattle.work.proofs.Bounds.{stream-long}
+use Rattle.files.proofs.map.OpenBlock.{loaded, loaded-map}
+use Rattle.files.proofs.slot.SlotInUse.{used-opens, used-stream}
+use Rattle.files.proofs.Bounds.{stream-long}
 
 -- bytes of a list's front are its own
 part-front : (from len n : ℕ) (x : List ℕ) → from + len ≤ n → part from len (take n x) ≡ part from len x

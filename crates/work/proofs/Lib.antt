@@ -1,5 +1,4 @@
 pub mod Rules
-pub mod Bounds
 pub mod Spots
 pub mod Copies
 pub mod TextRules

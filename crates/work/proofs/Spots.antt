@@ -19,10 +19,10 @@ use Rattle.records.proofs.RecordStreams.{allowed-small, records-allowed}
 use Rattle.ownership.specs.Blocks.{block}
 use Rattle.files.specs.Files.{stream, records, recordAt}
 use Rattle.files.specs.Code.Slots.{InUse}
-use Rattle.files.proofs.UpdateIs.{spot-there, spot-long, spot-fits, spot-data}
+use Rattle.files.proofs.replace.UpdateIs.{spot-there, spot-long, spot-fits, spot-data}
 use Rattle.files.proofs.SequentialFile.{stream-whole, record-length}
-use Rattle.files.proofs.SlotInUse.{slot-in, used-facts}
-use Rattle.work.proofs.Bounds.{stream-long}
+use Rattle.files.proofs.slot.SlotInUse.{slot-in, used-facts}
+use Rattle.files.proofs.Bounds.{stream-long}
 
 -- len bytes from `from` on of the stream are record i
 pub record Told (img e : List ℕ) (i from len : ℕ) : Type 0 where

@@ -8,7 +8,7 @@ use lib.ListN.{length}
 use Rattle.numbers.specs.Numbers.{mostMoved, mostSegments}
 use Rattle.lists.specs.Lists.{if_then_else_, _or_, _and_}
 use Rattle.lists.specs.Parts.{over}
-use Rattle.volume.specs.Directory.{contiguous, recordLength, size}
+use Rattle.volume.specs.Directory.{entryAt, contiguous, recordLength, size}
 use Rattle.volume.specs.Sat.{free}
 use Rattle.text.specs.Packing.{isText, packed, unpacked}
 use Rattle.records.specs.Records.{allowed}
@@ -97,12 +97,13 @@ storeRules img e i ss =
 unfoldable pub writeRules : List ℕ → List ℕ → ℕ → Bool → List ℕ → List Rule
 writeRules img e i fmt bs = BadLength if unfit fmt e bs ∷ storeRules img e i (storedAs fmt e bs)
 
-unfoldable pub written : List ℕ → ℕ → List ℕ → List ℕ → List ℕ
-written e i ss img = if contiguous e then overwritten e i ss img else appended e ss img
+-- RULES, Write: what becomes of the image, to the file in slot k
+unfoldable pub written : ℕ → ℕ → List ℕ → List ℕ → List ℕ
+written k i ss img = if contiguous (entryAt img k) then overwritten (entryAt img k) i ss img else appended k ss img
 
 -- RULES, Texts: the length answered is that of the bytes sent
-unfoldable pub writing : List ℕ → List ℕ → ℕ → Bool → List ℕ → Moving
-writing img e i fmt bs = moving e i (length bs) (written e i (storedAs fmt e bs) img) bs
+unfoldable pub writing : List ℕ → ℕ → ℕ → Bool → List ℕ → Moving
+writing img k i fmt bs = moving (entryAt img k) i (length bs) (written k i (storedAs fmt (entryAt img k) bs) img) bs
 
 -- RULES, Orders of refusals: update, after the opening that all transfers share: $82 (contiguous), $84, $C2, $61; after $84 the bytes
 -- stored count

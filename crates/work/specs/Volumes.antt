@@ -1,4 +1,5 @@
--- Rules of format, of allocate and of finding a file, of the volume alone. Defines RULES, Format; Allocate; Orders of refusals (theirs).
+-- Rules of format, of bring-up, of allocate and of finding a file, of the volume alone. Defines RULES, Format; Bring-up; Allocate; Orders
+-- of refusals (theirs).
 use mathlib.Core.Bool.{not, Bool}
 use mathlib.Core.List.{List, [], _∷_}
 use Prim.Native.Nat.{ℕ, _*_}
@@ -12,14 +13,19 @@ use Rattle.volume.specs.Volume.{inRange}
 use Rattle.volume.specs.Directory.{entries, named, unused, codeAllowed}
 use Rattle.volume.specs.Sat.{lowestRun}
 use Rattle.files.specs.Changes.{taken, allocated}
+use Rattle.files.specs.Files.{soundBefore}
 use Rattle.files.specs.Rights.{hasRight}
 use Rattle.work.specs.declared.Refusal.the-variants.{OutOfRange, NoFile, BadDescriptor, NoRoom, DirectoryFull, UnknownType, NoRight}
-use Rattle.work.specs.declared.Refusal.the-variants.{NameTaken}
+use Rattle.work.specs.declared.Refusal.the-variants.{NameTaken, NotSound}
 use Rattle.work.specs.Refusals.{Rule, _if_}
 
 -- RULES, Orders of refusals: format: $60
 unfoldable pub formatRules : List ℕ → List ℕ → ℕ → List Rule
 formatRules img id n = OutOfRange if not (eqb (length img) (256 * sectors img) and inRange (sectors img) n and volumeId id) ∷ []
+
+-- RULES, Orders of refusals: bring-up: $6F, by the rule of before there were record counts
+unfoldable pub bringUpRules : List ℕ → List Rule
+bringUpRules img = NotSound if not (soundBefore img) ∷ []
 
 -- RULES, Names and descriptors: the file of a descriptor is the first entry that equals it: its slot, or the number of entries
 unfoldable pub slotOf : List ℕ → List ℕ → ℕ
@@ -58,5 +64,5 @@ unfoldable pub newFile : List ℕ → List ℕ → ℕ → ℕ → ℕ → ℕ �
 newFile img desc k n l rc = allocated (index unused (entries img)) desc k n l rc (lowestRun (taken k n) img) img
 
 unfoldable pub volumes-open : Unit {0}
-unfolding formatRules slotOf exists namedRules sized placeRules allocateRules newFile
+unfolding formatRules bringUpRules slotOf exists namedRules sized placeRules allocateRules newFile
 volumes-open = tt

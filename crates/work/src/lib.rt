@@ -1,5 +1,6 @@
 // The work of each call on the volume, with no desk: it takes image, layout and numbers, tries the rules of the call's own in their
 // order, and then makes the change. Every function is proved equal to a definition of specs/.
+pub mod bringing;
 pub mod finding;
 pub mod formatting;
 pub mod lengths;

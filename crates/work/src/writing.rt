@@ -44,7 +44,7 @@ fn crosses(n: usize, i: usize, k: usize) -> bool
 // Sectors from number i on, of the contiguous file in a slot.
 fn write_run(image: &mut [u8], p: Layout, slot: usize, i: usize, data: &[u8]) -> Worked
     requires { ⌜ InUse (now image) p slot × (contiguous (entryAt (now image) slot) ≡ true) ⌝ }
-    ensures { λ r. ⌜ deed r (now (image .exit)) (now («data» .entry)) ≡ writeDeed (now (image .entry)) (entryAt (now (image .entry)) slot) i
+    ensures { λ r. ⌜ deed r (now (image .exit)) (now («data» .entry)) ≡ writeDeed (now (image .entry)) slot i
         false (now («data» .entry)) ⌝ }
 {
     if odd_length(data.len()) {
@@ -72,8 +72,8 @@ fn write_next(
     data: &[u8],
 ) -> Worked
     requires { ⌜ (i < 4294967296) × Adds (now image) p slot (now stored) × (length (now «data») ≤ recordLimit) ⌝ }
-    ensures { λ r. ⌜ deed r (now (image .exit)) (now («data» .entry)) ≡ appendDeed (now (image .entry))
-        (entryAt (now (image .entry)) slot) i (now (stored .entry)) (now («data» .entry)) ⌝ }
+    ensures { λ r. ⌜ deed r (now (image .exit)) (now («data» .entry)) ≡ appendDeed (now (image .entry)) slot i (now (stored .entry))
+        (now («data» .entry)) ⌝ }
 {
     if free_sectors(image, p) < needed_sectors(image, p, slot, stored) {
         return Worked::Denied(Refusal::NoRoom);
@@ -99,8 +99,8 @@ fn write_stored(
     data: &[u8],
 ) -> Worked
     requires { ⌜ Adds (now image) p slot (now stored) × (length (now «data») ≤ recordLimit) ⌝ }
-    ensures { λ r. ⌜ deed r (now (image .exit)) (now («data» .entry)) ≡ storeDeed (now (image .entry))
-        (entryAt (now (image .entry)) slot) i (now (stored .entry)) (now («data» .entry)) ⌝ }
+    ensures { λ r. ⌜ deed r (now (image .exit)) (now («data» .entry)) ≡ storeDeed (now (image .entry)) slot i (now (stored .entry))
+        (now («data» .entry)) ⌝ }
 {
     let n = extent_of(image, p, slot);
     if n < i {
@@ -115,7 +115,7 @@ fn write_stored(
 // A record of the sequential file in a slot, as it is sent.
 fn write_one(image: &mut [u8], p: Layout, slot: usize, i: usize, data: &[u8]) -> Worked
     requires { ⌜ InUse (now image) p slot × (contiguous (entryAt (now image) slot) ≡ false) ⌝ }
-    ensures { λ r. ⌜ deed r (now (image .exit)) (now («data» .entry)) ≡ writeDeed (now (image .entry)) (entryAt (now (image .entry)) slot) i
+    ensures { λ r. ⌜ deed r (now (image .exit)) (now («data» .entry)) ≡ writeDeed (now (image .entry)) slot i
         false (now («data» .entry)) ⌝ }
 {
     if !allowed(record_length(image, p, slot), data) {
@@ -127,7 +127,7 @@ fn write_one(image: &mut [u8], p: Layout, slot: usize, i: usize, data: &[u8]) ->
 // A text, packed, as a record of the variable file in a slot.
 fn write_text(image: &mut [u8], p: Layout, slot: usize, i: usize, data: &[u8]) -> Worked
     requires { ⌜ InUse (now image) p slot × (asText true (entryAt (now image) slot) ≡ true) ⌝ }
-    ensures { λ r. ⌜ deed r (now (image .exit)) (now («data» .entry)) ≡ writeDeed (now (image .entry)) (entryAt (now (image .entry)) slot) i
+    ensures { λ r. ⌜ deed r (now (image .exit)) (now («data» .entry)) ≡ writeDeed (now (image .entry)) slot i
         true (now («data» .entry)) ⌝ }
 {
     if !text_fits(data) {
@@ -150,7 +150,7 @@ pub fn write(
     data: &[u8],
 ) -> Worked
     requires { ⌜ InUse (now image) p slot ⌝ }
-    ensures { λ r. ⌜ deed r (now (image .exit)) (now («data» .entry)) ≡ writeDeed (now (image .entry)) (entryAt (now (image .entry)) slot) i
+    ensures { λ r. ⌜ deed r (now (image .exit)) (now («data» .entry)) ≡ writeDeed (now (image .entry)) slot i
         formatted (now («data» .entry)) ⌝ }
 {
     if is_contiguous(image, p, slot) {

@@ -1,4 +1,4 @@
--- An append as the code does it is the append: the access block, the table and the new sectors first, then the record alone after the
+-- A file lengthened as the code does it is the file lengthened: the access block, the table and the new sectors first, then the record alone after the
 -- stream; the sectors that hold the old stream are not written again.
 use mathlib.Core.Path.{_≡_, refl, ap, sym, _∙_}
 use mathlib.Core.Logic.{_≢_}
@@ -34,7 +34,7 @@ use Rattle.ownership.specs.Blocks.{block, streamLength, sectorsOf, blockSound}
 use Rattle.ownership.specs.Code.Shapes.{BlockShaped}
 use Rattle.ownership.specs.Owners.{logical, owned}
 use Rattle.files.specs.Files.{stored, stream, tail}
-use Rattle.files.specs.Changes.{longer, newSectors, newPairs, appended}
+use Rattle.files.specs.Changes.{longer, newSectors, newPairs, lengthened}
 use Rattle.files.specs.Code.Growing.{Grows, grownWith, Taking, RecordFits, Takes}
 use Rattle.files.proofs.SoundFacts.{Facts}
 use Rattle.files.proofs.OwnersApart.{clear-at, clear-flip, system-apart}
@@ -45,8 +45,8 @@ use Rattle.files.proofs.appending.OwnersJoined.{inside-table}
 use Rattle.files.proofs.appending.GrownBlock.{grownBlock, blockSound-shaped, new-inside, new-distinct, new-not-system, new-not-owned, grown-inside, grown-distinct}
 use Rattle.files.proofs.appending.GrownBlock.{grown-holds, length-grown-block, grown-sectorsOf, grown-sound}
 use Rattle.files.proofs.SoundSat.{length-sat}
-use Rattle.files.proofs.OpenBlock.{block-larger, mapped-inside, opens}
-use Rattle.files.proofs.SlotInUse.{slot-in, used-facts}
+use Rattle.files.proofs.map.OpenBlock.{block-larger, mapped-inside, opens}
+use Rattle.files.proofs.slot.SlotInUse.{slot-in, used-facts}
 
 module _ (v : List ℕ) (p : Layout) (k : ℕ) (r : List ℕ) (T : Takes v p k r) where
   abbrev e : List ℕ
@@ -247,8 +247,8 @@ module _ (v : List ℕ) (p : Layout) (k : ℕ) (r : List ℕ) (T : Takes v p k r
   holds : length (longer v e r) ≤ 256 * length ss
   holds = grown-holds v F k hk used seq r (T .enough)
 
-  laid-1 : laid ss (longer v e r) x1 ≡ appended e r v
-  unfolding appended putSat x0
+  laid-1 : laid ss (longer v e r) x1 ≡ lengthened e r v
+  unfolding lengthened putSat x0
   laid-1 =
       laid-over t ss x0 long-0 in-ss (grown-distinct v F k hk used seq r) x1 (longer v e r) keeps-1 holds
       ∙ laid-swap t ss (longer v e r) (putSector s grown v) (satAt v) bits long-s in-ss (F .sat-in) long-bits sat-out
@@ -271,7 +271,7 @@ module _ (v : List ℕ) (p : Layout) (k : ℕ) (r : List ℕ) (T : Takes v p k r
     -- and what it makes
     pub append-is : (z : List ℕ) → z ≡ laid (sectorsOf (sector (start (entryAt v k)) x))
         (put (streamLength (block v (entryAt v k))) (encoded (recordLength (entryAt v k)) r) (laidOut x (sectorsOf (sector (start (entryAt v k)) x)))) x
-        → z ≡ appended (entryAt v k) r v
+        → z ≡ lengthened (entryAt v k) r v
     append-is z ez =
         ez ∙ rw (is-x1 x ex, sectors-1, longer-1)
         (sym (laid-filled t ss x1 long-1 in-ss (grown-distinct v F k hk used seq r) (longer v e r) holds) ∙ laid-1)

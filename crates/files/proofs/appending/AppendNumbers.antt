@@ -31,7 +31,7 @@ use Rattle.files.proofs.SoundFacts.{Facts}
 use Rattle.files.proofs.SequentialFile.{fab-inside, block-sound, total-is, logical-inside, logical-distinct, length-logical, length-stream}
 use Rattle.files.proofs.taking.LowestFree.{below-few, length-lowest}
 use Rattle.files.proofs.appending.GrownBlock.{blockSound-shaped}
-use Rattle.files.proofs.SlotInUse.{slot-in, used-facts}
+use Rattle.files.proofs.slot.SlotInUse.{slot-in, used-facts}
 
 module _ (v : List ℕ) (p : Layout) (k : ℕ) (r : List ℕ) (A : Adds v p k r) where
   abbrev e : List ℕ

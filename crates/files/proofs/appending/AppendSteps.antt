@@ -18,7 +18,7 @@ use Rattle.ownership.specs.Blocks.{block, pairs, extendedBy, blockOf, streamLen
 use Rattle.ownership.proofs.AccessBlocks.{length-blockOf, fours-pairs}
 use Rattle.ownership.proofs.Segments.{fours-extendedBy}
 use Rattle.files.specs.Code.Growing.{grownWith, Taking, RecordFits, Takes}
-use Rattle.files.specs.Changes.{longer, needed, newSectors, appended}
+use Rattle.files.specs.Changes.{longer, needed, newSectors, lengthened}
 use Rattle.files.proofs.appending.AppendNumbers.{adds-low, adds-new}
 use Rattle.files.proofs.appending.AppendIs.{takes-taking, takes-fits, append-is}
 
@@ -62,6 +62,6 @@ module _ (v : List ℕ) (p : Layout) (k : ℕ) (r : List ℕ) (T : Takes v p k r
     unfolding block
     steps-fits = rw (ea, es, el) (takes-fits v p k r T x is)
 
-    pub steps-done : (z : List ℕ) → z ≡ laid (sectorsOf (sector s x)) (put a (encoded l r) (laidOut x (sectorsOf (sector s x)))) x → z ≡ appended (entryAt v k) r v
+    pub steps-done : (z : List ℕ) → z ≡ laid (sectorsOf (sector s x)) (put a (encoded l r) (laidOut x (sectorsOf (sector s x)))) x → z ≡ lengthened (entryAt v k) r v
     unfolding block
     steps-done z ez = append-is v p k r T x is z (ez ∙ rw (ea, es, el))

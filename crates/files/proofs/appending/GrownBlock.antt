@@ -30,7 +30,7 @@ use Rattle.files.proofs.SoundFacts.{Facts}
 use Rattle.files.proofs.OwnersApart.{owned-member, clear-flip}
 use Rattle.files.proofs.OwnSectorsWritten.{Part}
 use Rattle.files.proofs.appending.NeededSectors.{sectors-mono, sectors-hold, needed-most}
-use Rattle.files.proofs.FileSame.{clear}
+use Rattle.files.proofs.Kept.FileSame.{clear}
 use Rattle.files.proofs.SequentialFile.{logical-is, owned-is, fab-inside, block-sound, total-is, logical-inside, logical-distinct, length-logical, length-stream}
 use Rattle.files.proofs.taking.LowestFree.{lowest-inside, lowest-distinct, lowest-unowned, length-lowest}
 use Rattle.files.proofs.appending.OwnersJoined.{clear-narrow, distinct-join}

@@ -13,7 +13,7 @@ use Rattle.lists.proofs.Lists.{all-ext, all-head, all-tail, among-append}
 use Rattle.volume.proofs.BitsSet.{sat-numbers}
 use Rattle.records.proofs.LaidStream.{inside}
 use Rattle.files.proofs.OwnSectorsWritten.{Part}
-use Rattle.files.proofs.FileSame.{clear}
+use Rattle.files.proofs.Kept.FileSame.{clear}
 use Rattle.files.proofs.OwnersApart.{clear-by, clear-at}
 
 -- fewer sectors are kept clear of, more are written

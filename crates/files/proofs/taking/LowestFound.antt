@@ -15,7 +15,7 @@ use Rattle.lists.proofs.Puts.{length-put}
 use Rattle.lists.proofs.LentParts.{put-next}
 use Rattle.lists.proofs.Ranges.{kept-next, kept-none, drop-getD, drop-rest}
 use Rattle.lists.proofs.Puts.{put-none, put-one}
-use Rattle.files.proofs.MapFilled.{put-over}
+use Rattle.files.proofs.map.MapFilled.{put-over}
 
 -- one place more stored
 put-more : (p i : ℕ) (src d : List ℕ) → i < length src → p + length src ≤ length d → set (put p (take i src) d) (p + i) (getD src i 0) ≡ put p (take (i + 1) src) d

@@ -23,7 +23,7 @@ use Rattle.records.proofs.LaidStream.{inside}
 use Rattle.ownership.specs.Owners.{allOwned}
 use Rattle.files.proofs.SequentialFile.{distinct-front}
 use Rattle.files.proofs.SoundFacts.{Facts}
-use Rattle.files.proofs.FileSame.{clear}
+use Rattle.files.proofs.Kept.FileSame.{clear}
 use Rattle.files.proofs.OwnersApart.{clear-by}
 
 -- what is kept passes, and passes what all pass

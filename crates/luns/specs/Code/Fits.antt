@@ -7,7 +7,6 @@ use Rattle.numbers.specs.Numbers.{lastUser, mostMoved}
 use Rattle.lists.specs.Lists.{_and_, _or_, if_then_else_}
 use Rattle.volume.specs.Directory.{entryAt, unused, owner}
 use Rattle.files.specs.Rights.{hasRight}
-use Rattle.files.specs.Files.{extent}
 use Rattle.luns.specs.declared.Lun.{Lun}
 use Rattle.luns.specs.Modes.{writes}
 use Rattle.luns.specs.Luns.{placeExists, readsByRight}
@@ -30,7 +29,3 @@ stands img u = not (u .held) or placeExists img (entryAt img (u .slot)) (u .plac
 unfoldable pub placeWithin : Bool → ℕ → Place → Bool
 placeWithin con n Fresh = true
 placeWithin con n (At i m) = if con then leb 1 m and leb m mostMoved and leb (i + m) n else eqb m 1 and ltb i n
-
--- how far a held LUN's file goes
-unfoldable pub reach : List ℕ → Lun → ℕ
-reach img u = if u .held then extent img (entryAt img (u .slot)) else 0

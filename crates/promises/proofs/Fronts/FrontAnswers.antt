@@ -18,15 +18,17 @@ use Rattle.desk.specs.declared.Answer.the-variants.{Done, Refused}
 use Rattle.desk.specs.declared.Desk.{Desk}
 use Rattle.desk.specs.Desk.{state, emptyDesk}
 use Rattle.desk.specs.Answers.{Outcome, status, accepts, judged}
-use Rattle.desk.specs.Calls.{Call, Format, rules, step}
+use Rattle.desk.specs.Calls.{Call, Format, BringUp, rules, step}
 use Rattle.front.specs.Blocks.{blockSize, startIn, blockAfter}
 use Rattle.front.specs.Areas.{taskAfter, sharedAfter}
-use Rattle.front.specs.Front.{packedDesk, unpackedDesk, deskAfter, Served, served, servedBy, serve, serveFormat, Lent, lent, Ended, frontRules, asked, turnedBack, carriedOut}
+use Rattle.front.specs.Front.{packedDesk, unpackedDesk, deskAfter, Served, served, servedBy, serve, serveFormat, serveBringUp, Lent, lent, Ended, frontRules, asked, turnedBack}
+use Rattle.front.specs.Front.{carriedOut}
 use Rattle.front.specs.Front.{front}
 use Rattle.promises.specs.Answers.{statusTable}
-use Rattle.promises.specs.Fronts.{stateOf, Iocb, Formats, Calls, leaves, FrontInTable, RequestRefusalKeeps, LentKept, FrontRefusalKeeps, ShortBlock, FrontRefusedExactly}
+use Rattle.promises.specs.Fronts.{stateOf, Iocb, Formats, BringsUp, Calls, leaves, FrontInTable, RequestRefusalKeeps, LentKept, FrontRefusalKeeps, ShortBlock}
+use Rattle.promises.specs.Fronts.{FrontRefusedExactly}
 use Rattle.promises.specs.Fronts.{OneEnding}
-use Rattle.promises.proofs.Answers.{answer-in-table, refusal-keeps}
+use Rattle.promises.proofs.Answers.{answer-in-table, in-table, refusal-keeps}
 use Rattle.promises.proofs.Passing.{refuses-or-passes, ruled-first, ruled-passes}
 use Rattle.promises.proofs.Fronts.FrontCases.{PassedFront, front-cases, lent-back, task-same, shared-same}
 
@@ -115,19 +117,25 @@ module _ (rs : List Rule) (o : Outcome) (img bs : List ℕ) where
       go q (was-refused why e) = (ap (λ (v : Served). v .image) q ∙ k why e, ap (λ (v : Served). v .desk) q ∙ desk-refused _ _ bs why e)
 
 pub front-in-table : FrontInTable
-unfolding leaves serve serveFormat
+unfolding leaves serve serveFormat serveBringUp
 front-in-table (Iocb caller b t s) img bs = block-in-table caller (lent b img bs t s)
 front-in-table (Formats id n) img bs = served-in-table (NotSound if not (eqb (length bs) deskSize) ∷ []) (step (Format id n) (state img emptyDesk)) img bs
+front-in-table BringsUp img bs = in-table BringUp (state img emptyDesk)
 front-in-table (Calls c) img bs = served-in-table (NotSound if not (deskForm bs) ∷ []) (step c (state img (unpackedDesk bs))) img bs
 
 pub request-refusal-keeps : RequestRefusalKeeps
-unfolding leaves serve serveFormat
+unfolding leaves serve serveFormat serveBringUp
 request-refusal-keeps (Iocb caller b t s) img bs n =
     let k = front-refusal-keeps caller (lent b img bs t s) n in
     (k .image-kept, k .desk-kept)
 request-refusal-keeps (Formats id m) img bs n =
     served-keeps (NotSound if not (eqb (length bs) deskSize) ∷ []) (step (Format id m) (state img emptyDesk)) img bs
     (λ why e. refusal-keeps (Format id m) (state img emptyDesk) why e .image-kept) n
+request-refusal-keeps BringsUp img bs n = go (which (step BringUp (state img emptyDesk) .answer))
+  where
+    go : Which (step BringUp (state img emptyDesk) .answer) → (step BringUp (state img emptyDesk) .image ≡ img) × (bs ≡ bs)
+    go (was-done h z) = absurd (n z)
+    go (was-refused why e) = (refusal-keeps BringUp (state img emptyDesk) why e .image-kept, refl)
 request-refusal-keeps (Calls c) img bs n =
     served-keeps (NotSound if not (deskForm bs) ∷ []) (step c (state img (unpackedDesk bs))) img bs
     (λ why e. refusal-keeps c (state img (unpackedDesk bs)) why e .image-kept) n
@@ -164,5 +172,6 @@ one-ending = record {
   of-blocks = λ caller l n n′ m m′ e f. (ap (λ (x : Ended). x .returned) (e ∙ sym f), ap (λ (x : Ended). x .left) (e ∙ sym f));
   of-calls = λ c img bs. same-served (serve c img bs);
   of-format = λ id dirs img bs. same-served (serveFormat id dirs img bs);
+  of-bring-up = λ img n n′ a a′ e f. let q = same-served (serveBringUp img []) n n′ a a′ [] [] e f in (q .0, q .1);
   of-check = λ img n n′ e f. e ∙ sym f;
 }

@@ -17,12 +17,14 @@ use Rattle.desk.specs.declared.Answer.the-variants.{Refused}
 use Rattle.desk.specs.declared.Desk.{Desk}
 use Rattle.desk.specs.Desk.{State, state, emptyDesk}
 use Rattle.desk.specs.Answers.{Outcome, status, accepts}
-use Rattle.desk.specs.Calls.{Call, Format, Rewind, rules, done, quietly, sent, step}
+use Rattle.desk.specs.Calls.{Call, Format, BringUp, Rewind, rules, done, quietly, sent, step}
 use Rattle.front.specs.Blocks.{functionOf, lunIn, isTransfer}
-use Rattle.front.specs.Front.{packedDesk, unpackedDesk, deskAfter, served, servedBy, serve, serveFormat, Lent, lent, Ended, frontRules, transferAsked, asked, turnedBack}
+use Rattle.front.specs.Front.{packedDesk, unpackedDesk, deskAfter, served, servedBy, serve, serveFormat, serveBringUp, Lent, lent, Ended, frontRules, transferAsked, asked}
+use Rattle.front.specs.Front.{turnedBack}
 use Rattle.front.specs.Front.{carriedOut}
 use Rattle.promises.specs.DeskBytes.{PlainDesk}
-use Rattle.promises.specs.Fronts.{bytesLent, Request, Iocb, Formats, Calls, leaves, visitBy, throughAll, visitsBy, RequestsAreVisits, imageAfter, bytesAfter, callsBy}
+use Rattle.promises.specs.Fronts.{bytesLent, Request, Iocb, Formats, BringsUp, Calls, leaves, visitBy, throughAll, visitsBy, RequestsAreVisits, imageAfter, bytesAfter}
+use Rattle.promises.specs.Fronts.{callsBy}
 use Rattle.promises.specs.Fronts.{callsMade, SameRun}
 use Rattle.promises.specs.Fronts.{RequestsAreRuns, BytesSent, RequestBytes, FrontStaysGood}
 use Rattle.promises.specs.Runs.{Visit, visit, through, next, run}
@@ -38,7 +40,7 @@ use Rattle.promises.proofs.Passing.{accepted, ruled-first, ruled-passes
 use Rattle.promises.proofs.Names.{id-bytes}
 use Rattle.promises.proofs.Told as accepts-told
 
--- A request, seen from the volume: nothing, or one visit, with the desk that its bytes stand for or, for format, any
+-- A request, seen from the volume: nothing, or one visit, with the desk that its bytes stand for or, for format and bring-up, any
 data Suits (c : Call) (d : Desk) (bs : List ℕ) : Type 0 where
   its-own : d ≡ unpackedDesk bs → Suits c d bs
   any-desk : (id : List ℕ) (n : ℕ) → c ≡ Format id n → Suits c d bs
@@ -52,6 +54,7 @@ record Makes (r : Request) (img bs : List ℕ) (c : Call) (d : Desk) : Type 0 wh
 data Told (r : Request) (img bs : List ℕ) : Type 0 where
   quiet : visitBy r img bs ≡ [] → leaves r img bs .image ≡ img → leaves r img bs .desk ≡ bs → Told r img bs
   makes : (c : Call) (d : Desk) → Makes r img bs c d → Told r img bs
+  raises : visitBy r img bs ≡ visit emptyDesk BringUp ∷ [] → leaves r img bs .image ≡ step BringUp (state img emptyDesk) .image → leaves r img bs .desk ≡ bs → Told r img bs
 
 block-told : (caller : ℕ) (b t s img bs : List ℕ) → Told (Iocb caller b t s) img bs
 unfolding leaves visitBy turnedBack carriedOut
@@ -87,9 +90,14 @@ call-told c img bs = go (deskForm bs) refl
     go true e = makes c (unpackedDesk bs) (record { one-visit = rw e; its-image = rw e; its-desk = rw e; suits = its-own refl })
     go false e = quiet (rw e) (rw e) (rw e)
 
+bring-up-told : (img bs : List ℕ) → Told BringsUp img bs
+unfolding leaves visitBy serveBringUp
+bring-up-told img bs = raises refl refl refl
+
 told : (r : Request) (img bs : List ℕ) → Told r img bs
 told (Iocb caller b t s) img bs = block-told caller b t s img bs
 told (Formats id n) img bs = format-told id n img bs
+told BringsUp img bs = bring-up-told img bs
 told (Calls c) img bs = call-told c img bs
 
 -- Requests with any desk bytes are visits
@@ -97,6 +105,7 @@ visits-more : (r : Request) (img bs : List ℕ) (vs : List Visit) → Told r img
 unfolding through
 visits-more r img bs vs (quiet e i d) = rw e (ap (through vs) (sym i))
 visits-more r img bs vs (makes c d m) = rw (m .one-visit) (ap (through vs) (sym (m .its-image)))
+visits-more r img bs vs (raises e i d) = rw e (ap (through vs) (sym i))
 
 no-visit : (img : List ℕ) → through [] img ≡ img
 unfolding through
@@ -129,6 +138,19 @@ format-same id n img d e =
     })
     (refused-or-accepted (Format id n) (state img d))
 
+-- bring-up, whatever desk it finds, which it leaves
+bring-up-same : (s : State) (d : Desk) → step BringUp (state (s .image) d) .image ≡ step BringUp s .image
+unfolding rules done quietly
+bring-up-same s d =
+    ⊎-elim
+    (λ t. ap (λ (o : Outcome). o .image) (step-first BringUp (state (s .image) d) (t .place) (t .why) (t .first)) ∙ sym (ap (λ (o : Outcome). o .image) (t .is)))
+    (λ a. ap (λ (o : Outcome). o .image) (step-passes BringUp (state (s .image) d) (a .passes)) ∙ sym (ap (λ (o : Outcome). o .image) (a .is)))
+    (refused-or-accepted BringUp s)
+
+bring-up-desk : (s : State) → step BringUp s .desk ≡ s .desk
+unfolding done quietly
+bring-up-desk s = ⊎-elim (λ t. ap (λ (o : Outcome). o .desk) (t .is)) (λ a. ap (λ (o : Outcome). o .desk) (a .is)) (refused-or-accepted BringUp s)
+
 refused-not : (why : Refusal) → accepts (Refused why) ≡ false
 unfolding accepts
 refused-not why = refl
@@ -145,6 +167,10 @@ packed-after c s = go (which (step c s .answer))
 format-sent : (id : List ℕ) (n : ℕ) → Bytes id → Bytes (sent (Format id n))
 unfolding sent
 format-sent id n h = h
+
+bring-up-sent : Bytes (sent BringUp)
+unfolding sent
+bring-up-sent = bytes-nil
 
 -- what requests send is bytes
 visit-bytes : (rs : List Rule) (v : Visit) → Bytes (sent (v .call)) → AllBytes (callsBy (ruled rs (λ why. []) (v ∷ [])))
@@ -173,6 +199,7 @@ made-bytes : (r : Request) (img bs : List ℕ) → BytesSent r → AllBytes (cal
 unfolding visitBy
 made-bytes (Iocb caller b t s) img bs h = visit-bytes (frontRules (lent b img bs t s)) _ (asked-bytes caller (lent b img bs t s) (h .0) (h .1))
 made-bytes (Formats id n) img bs h = visit-bytes (NotSound if not (eqb (length bs) deskSize) ∷ []) _ (format-sent id n h)
+made-bytes BringsUp img bs h = (bring-up-sent, tt)
 made-bytes (Calls c) img bs h = visit-bytes (NotSound if not (deskForm bs) ∷ []) _ h
 
 both-bytes : (cs ds : List Call) → AllBytes cs → AllBytes ds → AllBytes (cs ++ ds)
@@ -225,6 +252,11 @@ record OneRun (r : Request) (s : State) : Type 0 where
 one-run : (r : Request) (s : State) → BytesSent r → PlainDesk (s .desk) → Told r (s .image) (packedDesk (s .desk)) → OneRun r s
 unfolding run next
 one-run r s b p (quiet v i d) = record { image-is = rw v i; desk-is = rw v d; still-plain = rw v p }
+one-run r s b p (raises v i d) = record {
+  image-is = rw v (i ∙ bring-up-same s emptyDesk);
+  desk-is = rw v (d ∙ ap packedDesk (sym (bring-up-desk s)));
+  still-plain = rw (v, bring-up-desk s) p;
+}
 one-run r s b p (makes c d m) = record {
   image-is = rw (m .one-visit) (m .its-image ∙ images (m .suits));
   desk-is = rw (m .one-visit) (m .its-desk ∙ desks (m .suits) ∙ packed-after c s);

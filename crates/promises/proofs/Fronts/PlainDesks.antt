@@ -11,24 +11,26 @@ use borrow.Author.Tests.{eqb-true, leb-true, ltb-true}
 use Rattle.numbers.specs.Numbers.{lunCount, mostMoved}
 use Rattle.lists.proofs.Tests.{and-left, and-right}
 use Rattle.volume.specs.Volume.{layoutOf}
-use Rattle.volume.specs.Directory.{entryAt, unused, contiguous}
+use Rattle.volume.specs.Directory.{entryAt, unused, contiguous, SameButCount}
+use Rattle.volume.proofs.EntryCounted.{owner-is, alike-refl}
 use Rattle.volume.proofs.Located.{located-sound}
 use Rattle.files.specs.Files.{extent, sound}
 use Rattle.files.proofs.SoundFacts.{facts}
-use Rattle.files.proofs.UsedSlots.{used-slot}
+use Rattle.files.proofs.slot.UsedSlots.{used-slot}
 use Rattle.files.proofs.OneFileChanged.{entry-here}
 use Rattle.luns.specs.declared.Lun.{Lun}
 use Rattle.luns.specs.declared.Place.{Place}
 use Rattle.luns.specs.declared.Place.the-variants.{Fresh, At}
 use Rattle.luns.specs.Luns.{freeLun, movedTo, placeExists, readsByRight}
-use Rattle.luns.proofs.Fitting.{Fitted}
+use Rattle.luns.proofs.Fitting.{Fitted, may-alike, place-alike}
 use Rattle.deskbytes.specs.DeskBytes.{PlainPlace, PlainLun}
 use Rattle.deskbytes.proofs.UnpackedLun.{free-plain}
 use Rattle.work.specs.Transfers.{storedAs, moving, reading, writing, updating, units}
 use Rattle.work.proofs.TextRules.{stored-units}
 use Rattle.desk.specs.declared.Desk.{Desk}
 use Rattle.desk.specs.Desk.{State, state, emptyDesk, lunAt, putLun, ready, mine, fileOf, aimed}
-use Rattle.desk.specs.Calls.{Call, Format, Check, Allocate, Assign, Close, Rewind, Delete, Read, Write, Update, quietly, checked, after, transferred, done, seatOf, newLun, sent}
+use Rattle.desk.specs.Calls.{Call, Format, Check, BringUp, Allocate, Assign, Close, Rewind, Delete, Read, Write, Update, quietly, checked, after, transferred, done, seatOf, newLun}
+use Rattle.desk.specs.Calls.{sent}
 use Rattle.desk.specs.Calls.{step}
 use Rattle.desk.proofs.Bounds.{extent-small}
 use Rattle.promises.specs.Contents.{slotHeld}
@@ -124,25 +126,30 @@ module _ (s : State) (caller lun : ℕ) (r : ready s ≡ true) (m : mine (s .des
   unfolding lunAt
   kept-code = h .each-plain lun .code-fits
 
-  plain-moved : (v : List ℕ) (p : Place) → sound v ≡ true → entryAt v (slotHeld s lun) ≡ entryOf s lun → placeExists v (entryOf s lun) p ≡ true
+  read-alike : (v : List ℕ) (p : Place) → SameButCount (entryOf s lun) (entryAt v (slotHeld s lun)) → readsByRight v (movedTo p (lunAt (s .desk) lun)) ≡ true
+  unfolding movedTo readsByRight
+  read-alike v p same =
+      rw (may-alike (entryOf s lun) (entryAt v (slotHeld s lun)) same (lunAt (s .desk) lun .user) (lunAt (s .desk) lun .offered)) (H .lun-ok .read-right)
+
+  plain-moved : (v : List ℕ) (p : Place) → sound v ≡ true → SameButCount (entryOf s lun) (entryAt v (slotHeld s lun)) → placeExists v (entryOf s lun) p ≡ true
       → PlainDesk (movedAt s lun p)
   unfolding movedTo
   plain-moved v p is-sound same there =
       let fits : Fitted v (movedTo p (lunAt (s .desk) lun)) = record {
-        used = rw same (H .lun-ok .used);
+        used = same .use-same ∙ H .lun-ok .used;
         user-in = H .lun-ok .user-in;
-        right = rw same (H .lun-ok .right);
-        read-right = unfold readsByRight in rw same (H .lun-ok .read-right);
-        place = rw same there;
+        right = rw (owner-is (entryOf s lun) (entryAt v (slotHeld s lun)) same) (H .lun-ok .right);
+        read-right = read-alike v p same;
+        place = place-alike v (entryOf s lun) (entryAt v (slotHeld s lun)) same p ∙ there;
       } in
       plain-put (s .desk) lun _ h (plain-held v _ is-sound (H .is-held) kept-code fits)
 
   plain-kept : (p : Place) → placeExists (s .image) (entryOf s lun) p ≡ true → PlainDesk (movedAt s lun p)
-  plain-kept p there = plain-moved (s .image) p (ready-sound s r) refl there
+  plain-kept p there = plain-moved (s .image) p (ready-sound s r) (alike-refl (entryOf s lun)) there
 
   plain-rewritten : (ss v : List ℕ) (i n : ℕ) → Rewrites s lun ss v i n → PlainDesk (movedAt s lun (At i n))
   plain-rewritten ss v i n R =
-      plain-moved v (At i n) (R .is-sound) (entry-here (s .image) v (slotHeld s lun) (entryOf s lun) (R .ws) (R .changed)) (R .place)
+      plain-moved v (At i n) (R .is-sound) (rw (entry-here (s .image) v (slotHeld s lun) (R .entry) (R .ws) (R .changed)) (R .same)) (R .place)
 
   plain-rewound : PlainDesk (movedAt s lun Fresh)
   unfolding placeExists
@@ -170,7 +177,7 @@ module _
   rewritten : (v : List ℕ) (n : ℕ) → Rewrites s lun ss v i n → PlainDesk (movedAt s lun (At i n))
   rewritten v n R = plain-rewritten s caller lun (T .opened .is-ready) (T .opened .is-mine) h ss v i n R
 
-  plain-written : PlainDesk (after (s .desk) lun (writing (s .image) (fileOf s lun) (aimed s lun sel num) fmt bs))
+  plain-written : PlainDesk (after (s .desk) lun (writing (s .image) (slotHeld s lun) (aimed s lun sel num) fmt bs))
   unfolding after writing moving fileOf
   plain-written = rw (sym (stored-units fmt e bs)) (go (contiguous e) refl)
     where
@@ -190,6 +197,7 @@ plain-done : (c : Call) (s : State) → Accepted c s → Bytes (sent c) → Plai
 unfolding done sent quietly checked transferred
 plain-done (Format id n) s a b h = plain-empty
 plain-done Check s a b h = h
+plain-done BringUp s a b h = h
 plain-done (Allocate caller desc k n l rc) s a b h = h
 plain-done (Assign caller lun desc mode end offered) s a b h = plain-assigned caller lun desc mode end offered s (assign-told caller lun desc mode end offered s a) (b 0) h
 plain-done (Close caller lun) s a b h = plain-put (s .desk) lun freeLun h free-plain

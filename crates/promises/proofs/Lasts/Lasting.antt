@@ -10,6 +10,7 @@ use Rattle.lists.specs.Lists.{_and_}
 use Rattle.lists.proofs.Tests.{and-left, and-right, is-false}
 use Rattle.volume.specs.Directory.{entryAt}
 use Rattle.files.specs.Files.{extent}
+use Rattle.files.proofs.Kept.EntryAlike.{extent-alike}
 use Rattle.desk.specs.Desk.{State, fileOf, aimed}
 use Rattle.desk.specs.Answers.{Outcome, accepts}
 use Rattle.desk.specs.Calls.{Call, step, touch, Write}
@@ -48,7 +49,8 @@ lasts-through img h k i f l (v ∷ vs) b n =
     let t = step-lasts (v .call) s (h .is-bytes) k i f l (and-left _ _ n) in
     lasting-trans img img′ (through vs img′) k i t
     (lasts-through img′ (sound-next (v .call) s h (b .0)) k i
-    (file-after img img′ k (f .used) (t .same-entry)) (rw (sym (t .same-entry)) at (t .still-there)) vs (b .1) (and-right _ _ n))
+    (file-after img img′ k (f .used) (t .same-but-count)) (rw (extent-alike (entryAt img k) (entryAt img′ k) (t .same-but-count) img′) (t .still-there)) vs (b .1)
+    (and-right _ _ n))
 
 -- the record that an append touches is the new one, whose number is the record count
 pub append-ends-none : AppendEndsNone

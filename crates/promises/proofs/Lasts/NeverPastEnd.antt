@@ -7,6 +7,7 @@ use native.Mathlib.Omega.{arith}
 use borrow.Author.Tests.{lt-leb}
 use Rattle.volume.specs.Directory.{entryAt}
 use Rattle.files.specs.Files.{extent}
+use Rattle.files.proofs.Kept.EntryAlike.{extent-alike}
 use Rattle.work.specs.Refusals.{code, Rule}
 use Rattle.work.specs.declared.Refusal.{Refusal}
 use Rattle.work.specs.declared.Refusal.the-variants.{PastEnd}
@@ -41,7 +42,7 @@ pub never-past-end : NeverPastEnd
 unfolding fileOf
 never-past-end img h k i f l vs t B caller lun sel num fmt buf ek ei a =
     let L : Lasting img (t .image) k i = rw (B .reached) (lasts-through img h k i f l vs (B .are-bytes) (B .nothing-ends-it)) in
-    let same : entryOf t lun ≡ entryAt img k = ap (entryAt (t .image)) ek ∙ L .same-entry in
-    let there : aimed t lun sel num < extent (t .image) (entryOf t lun) = rw (ei, same) (L .still-there) in
+    let there : aimed t lun sel num < extent (t .image) (entryOf t lun) =
+    rw (ei, ek, extent-alike (entryAt img k) (entryAt (t .image) k) (L .same-but-count) (t .image)) (L .still-there) in
     let first-rule = refused-first (Read caller lun sel num fmt buf) t PastEnd a in
     never PastEnd (rules (Read caller lun sel num fmt buf) t) (first-rule .0) (not-past t caller lun sel num fmt buf there) (first-rule .1)

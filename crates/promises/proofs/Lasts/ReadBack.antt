@@ -1,5 +1,5 @@
 -- What was written is read back: the accepted write or update, the visits between, and the accepted read together.
-use mathlib.Core.Path.{_≡_, ap, sym, _∙_}
+use mathlib.Core.Path.{_≡_, ap, _∙_}
 use mathlib.Core.Bool.{Bool, true, false}
 use mathlib.Core.List.{List, [], _++_}
 use Prim.Native.Nat.{ℕ, _+_, _*_, _/_, _<_, _≤_}
@@ -7,9 +7,11 @@ use native.Mathlib.Omega.{arith}
 use lib.ListN.{length, length-append, length-set, length-drop, getD, take, drop}
 use lib.Seq.{getD-set-same, drop-append-le, take-append-le}
 use Rattle.lists.specs.Parts.{part, over}
-use Rattle.volume.specs.Directory.{entryAt, unused, contiguous}
+use Rattle.volume.specs.Directory.{entryAt, unused, contiguous, SameButCount}
+use Rattle.volume.proofs.EntryCounted.{contiguous-is, alike-entry, alike-trans}
 use Rattle.files.specs.Files.{extent, records, recordAt}
-use Rattle.work.specs.Transfers.{storedAs, handedAs}
+use Rattle.files.proofs.Kept.EntryAlike.{extent-alike}
+use Rattle.work.specs.Transfers.{asText, storedAs, handedAs}
 use Rattle.work.proofs.TextRules.{stored-run}
 use Rattle.desk.specs.Desk.{State, aimed, fileOf}
 use Rattle.desk.specs.Answers.{moved}
@@ -22,7 +24,7 @@ use Rattle.promises.specs.Contents.{unitOf, unitAt, slotHeld, Wrote, Upd
 use Rattle.promises.specs.Lasting.{Lasting, Between, HandsBack, WrittenIsRead, UpdatedIsRead, WrittenSectorIsRead}
 use Rattle.promises.proofs.Passing.{accepted}
 use Rattle.promises.proofs.Told.{WriteTold, write-told, update-told}
-use Rattle.promises.proofs.Units.{extent-run, extent-records, unit-record, record-last, file-after}
+use Rattle.promises.proofs.Units.{extent-run, extent-records, unit-record, unit-alike, record-last, file-after}
 use Rattle.promises.proofs.Held.{entryOf, ready-sound, held-by, Held}
 use Rattle.promises.proofs.Overwriting.{Overwriting, overwriting}
 use Rattle.promises.proofs.Appending.{Appending, appending}
@@ -33,22 +35,29 @@ use Rattle.promises.proofs.Lasts.Lasting.{lasts-through}
 use Rattle.promises.proofs.Reading.{accepted-read}
 
 -- a unit after a call, still there after the visits between
-still : (v v′ : List ℕ) (k i : ℕ) → unused (entryAt v k) ≡ false → entryAt v′ k ≡ entryAt v k → Sound v′ → i < extent v′ (entryAt v k)
-    → (vs : List Visit) (w : List ℕ) → Between v′ k i vs w → (entryAt w k ≡ entryAt v k) × (unitAt w k i ≡ unitAt v′ k i)
-still v v′ k i u e h x vs w B =
+still : (v v′ : List ℕ) (k i : ℕ) → unused (entryAt v k) ≡ false → SameButCount (entryAt v k) (entryAt v′ k) → Sound v′ → i < extent v′ (entryAt v k)
+    → (vs : List Visit) (w : List ℕ) → Between v′ k i vs w → SameButCount (entryAt v k) (entryAt w k) × (unitAt w k i ≡ unitAt v′ k i)
+still v v′ k i u S h x vs w B =
+    let there : i < extent v′ (entryAt v′ k) = rw (extent-alike (entryAt v k) (entryAt v′ k) S v′) x in
     let L : Lasting v′ w k i =
-    rw (B .reached) (lasts-through v′ h k i (file-after v v′ k u e) (rw (sym e) at x) vs (B .are-bytes) (B .nothing-ends-it)) in
-    (L .same-entry ∙ e, L .same-unit)
+    rw (B .reached) (lasts-through v′ h k i (file-after v v′ k u S) there vs (B .are-bytes) (B .nothing-ends-it)) in
+    (alike-trans (entryAt v k) (entryAt v′ k) (entryAt w k) S (L .same-but-count), L .same-unit)
+
+-- entries that are the same but for the count hand over alike
+handed-alike : (e d : List ℕ) → SameButCount e d → (fmt : Bool) (ss : List ℕ) → handedAs fmt d ss ≡ handedAs fmt e ss
+unfolding handedAs asText
+handed-alike e d S fmt ss = rw (contiguous-is e d S, S .length-same)
 
 -- a read of a record that is there
-record-read : (t : State) (k i : ℕ) (e ss : List ℕ) → entryAt (t .image) k ≡ e → contiguous e ≡ false → unitAt (t .image) k i ≡ ss → HandsBack t e k i ss
+record-read : (t : State) (k i : ℕ) (e ss : List ℕ) → SameButCount e (entryAt (t .image) k) → contiguous e ≡ false → unitAt (t .image) k i ≡ ss
+    → HandsBack t e k i ss
 unfolding fileOf
 record-read t k i e ss same q u fmt caller lun sel num buf r ek ei =
     let R = accepted-read t caller lun sel num fmt buf r in
-    let its : entryOf t lun ≡ e = ap (entryAt (t .image)) ek ∙ same in
+    let its : SameButCount e (entryOf t lun) = rw ek same in
     let is : R .0 ≡ handedAs fmt e ss =
-    R .1 .one-record (ap contiguous its ∙ q) .0
-    ∙ ap (λ (x : List ℕ). handedAs fmt x (unitAt (t .image) (slotHeld t lun) (aimed t lun sel num))) its
+    R .1 .one-record (contiguous-is e (entryOf t lun) its ∙ q) .0
+    ∙ handed-alike e (entryOf t lun) its fmt (unitAt (t .image) (slotHeld t lun) (aimed t lun sel num))
     ∙ ap (λ (m : ℕ). handedAs fmt e (unitAt (t .image) m (aimed t lun sel num))) ek
     ∙ ap (λ (m : ℕ). handedAs fmt e (unitAt (t .image) k m)) ei
     ∙ ap (handedAs fmt e) u in
@@ -95,7 +104,7 @@ module _
     unit-appended : unitAt v′ k i ≡ ss
     unfolding fileOf
     unit-appended =
-        ap (λ (x : List ℕ). unitOf v′ x i) (wrote .entry-same)
+        unit-alike e (entryAt v′ k) (wrote .same-but-count) v′ i
         ∙ unit-record v′ e i q
         ∙ record-last (s .image) v′ e i ss (wrote .appended-record q .0) (wrote .appended-record q .1)
 
@@ -104,26 +113,26 @@ module _
     record-there = omega (arith, A .at-end, extent-records v′ e q, simp length-append at (ap length (wrote .appended-record q .1)))
 
     pub record-still : (vs : List Visit) (w : List ℕ) → Between (step (Write caller lun sel num fmt bs) s .image) (slotHeld s lun) (aimed s lun sel num) vs w
-        → (entryAt w (slotHeld s lun) ≡ entryOf s lun) × (unitAt w (slotHeld s lun) (aimed s lun sel num) ≡ storedAs fmt (entryOf s lun) bs)
+        → SameButCount (entryOf s lun) (entryAt w (slotHeld s lun)) × (unitAt w (slotHeld s lun) (aimed s lun sel num) ≡ storedAs fmt (entryOf s lun) bs)
     unfolding fileOf
     record-still vs w B =
-        let S = still (s .image) v′ k i (A .held-file .lun-ok .used) (wrote .entry-same) sound-after record-there vs w B in
+        let S = still (s .image) v′ k i (A .held-file .lun-ok .used) (wrote .same-but-count) sound-after record-there vs w B in
         (S .0, S .1 ∙ unit-appended)
 
   -- a sector written
   pub sector-still : contiguous (entryOf s lun) ≡ true → (j : ℕ) → j < length bs / 256 → (vs : List Visit) (w : List ℕ)
       → Between (step (Write caller lun sel num fmt bs) s .image) (slotHeld s lun) (aimed s lun sel num + j) vs w
-      → (entryAt w (slotHeld s lun) ≡ entryOf s lun) × (unitAt w (slotHeld s lun) (aimed s lun sel num + j) ≡ part (256 * j) 256 bs)
+      → SameButCount (entryOf s lun) (entryAt w (slotHeld s lun)) × (unitAt w (slotHeld s lun) (aimed s lun sel num + j) ≡ part (256 * j) 256 bs)
   unfolding fileOf
   sector-still q j l vs w B =
       let same : ss ≡ bs = stored-run fmt e bs q in
       let l′ : j < length ss / 256 = rw same l in
       let O : Overwriting s lun i ss = overwriting caller lun sel num ss s told q in
       let x : i + j < extent v′ e = omega (arith, l′, O .inside, extent-run v′ e q) in
-      let S = still (s .image) v′ k (i + j) (O .held-file .lun-ok .used) (wrote .entry-same) sound-after x vs w B in (
+      let S = still (s .image) v′ k (i + j) (O .held-file .lun-ok .used) (wrote .same-but-count) sound-after x vs w B in (
         S .0,
         S .1
-            ∙ ap (λ (x : List ℕ). unitOf v′ x (i + j)) (wrote .entry-same)
+            ∙ unit-alike e (entryAt v′ k) (wrote .same-but-count) v′ (i + j)
             ∙ wrote .sectors-written q j l′
             ∙ ap (part (256 * j) 256) same,
       )
@@ -151,7 +160,7 @@ updated-is-read s bi caller lun sel num fmt bs b h vs t B =
     let there : i < extent v′ e =
     omega (arith, U .there, extent-records v′ e q, ap length (U .replaced), length-set (records (s .image) e) i ss) in
     let sound-after : Sound v′ = sound-next c s (record { is-sound = ready-sound s (T .opened .is-ready); is-bytes = bi }) b in
-    let S = still (s .image) v′ k i (H .lun-ok .used) (U .entry-same) sound-after there vs (t .image) B in
+    let S = still (s .image) v′ k i (H .lun-ok .used) (alike-entry e (entryAt v′ k) (U .entry-same)) sound-after there vs (t .image) B in
     let new : unitAt v′ k i ≡ ss =
     ap (λ (x : List ℕ). unitOf v′ x i) (U .entry-same)
     ∙ unit-record v′ e i q
@@ -173,8 +182,7 @@ written-sector-is-read s bi caller lun sel num fmt bs b h q j l vs t B caller′
     let k : ℕ = slotHeld s lun in
     let S = sector-still s bi caller lun sel num fmt bs b h q j l vs (t .image) B in
     let R = accepted-read t caller′ lun′ sel′ num′ fmt′ buf r in
-    let its : entryOf t lun′ ≡ entryOf s lun = ap (entryAt (t .image)) ek ∙ S .0 in
-    let q′ : contiguous (entryOf t lun′) ≡ true = ap contiguous its ∙ q in
+    let q′ : contiguous (entryOf t lun′) ≡ true = ap (λ (x : ℕ). contiguous (entryAt (t .image) x)) ek ∙ contiguous-is (entryOf s lun) (entryAt (t .image) k) (S .0) ∙ q in
     let inside : 256 * a < length (R .0) = rw (ap moved (R .1 .answered)) at m in
     let whole : 256 * a + 256 ≤ length (R .0) = omega (arith, inside, R .1 .how-many q′) in
     ap (part (256 * a) 256) (R .1 .buffer-has)

@@ -61,7 +61,7 @@ run-by-run = record {
 
 -- rules and change of a transfer that is not of text do not see the option
 pub option-ignored : OptionIgnored
-unfolding step rules done given readRules reading dataAt writeRules writing updateRules updating
+unfolding step rules done given fileOf readRules reading dataAt writeRules writing updateRules updating
 option-ignored s caller lun sel num bs t =
     let e : List ℕ = fileOf s lun in
     record {

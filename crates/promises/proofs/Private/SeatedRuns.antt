@@ -7,6 +7,7 @@ use Prim.Native.Nat.{ℕ, zero, suc, _<_}
 use native.Mathlib.Omega.{arith}
 use lib.ListN.{length}
 use Rattle.volume.specs.Directory.{described}
+use Rattle.volume.proofs.EntryCounted.{alike-trans}
 use Rattle.desk.specs.Desk.{State, lunAt}
 use Rattle.desk.specs.Calls.{Call, Assign, step}
 use Rattle.promises.specs.Runs.{next, run, trace}
@@ -27,7 +28,7 @@ same-after s t u lun p q = record {
   was-held = p .was-held;
   same-user = q .same-user ∙ p .same-user;
   same-code = q .same-code ∙ p .same-code;
-  same-file = q .same-file ∙ p .same-file;
+  same-file = alike-trans (entryOf s lun) (entryOf t lun) (entryOf u lun) (p .same-file) (q .same-file);
 }
 
 known-first : (c : Call) (cs : List Call) (s t : State) (k lun : ℕ) → NewSeat c s (next c s) lun → SameSeat (next c s) t lun → Known (c ∷ cs) s (suc k) lun t
@@ -38,7 +39,7 @@ known-first c cs s t k lun n q = record {
   offer = record {
     mode = n .mode;
     end = n .end;
-    is-assign = n .is-assign ∙ (λ i. Assign (sym (q .same-user) i) lun (described (sym (q .same-file) i)) (n .mode) (n .end) (sym (q .same-code) i));
+    is-assign = n .is-assign ∙ (λ i. Assign (sym (q .same-user) i) lun (sym (q .same-file .name-same) i) (n .mode) (n .end) (sym (q .same-code) i));
     is-accepted = n .is-accepted;
   };
 }

@@ -12,8 +12,9 @@ use Rattle.numbers.specs.Numbers.{lunCount}
 use Rattle.lists.proofs.Tests.{both-true, is-false}
 use Rattle.lists.proofs.Lists.{all-at, same-true}
 use Rattle.lists.proofs.IndexFound.{none-all}
-use Rattle.volume.specs.Directory.{entryAt, described, named}
-use Rattle.files.proofs.UsedSlots.{used-slot}
+use Rattle.volume.specs.Directory.{entryAt, described, named, SameButCount}
+use Rattle.volume.proofs.EntryCounted.{alike-refl, alike-entry}
+use Rattle.files.proofs.slot.UsedSlots.{used-slot}
 use Rattle.luns.specs.declared.Lun.{Lun}
 use Rattle.luns.specs.declared.Place.{Place}
 use Rattle.luns.specs.declared.Place.the-variants.{Fresh}
@@ -22,8 +23,8 @@ use Rattle.luns.proofs.Fitting.{Fitting, fitting}
 use Rattle.work.specs.Volumes.{slotOf}
 use Rattle.desk.specs.declared.Desk.{Desk}
 use Rattle.desk.specs.Desk.{State, state, emptyDesk, lunAt, putLun, fileOf}
-use Rattle.desk.specs.Answers.{Outcome, accepts}
-use Rattle.desk.specs.Calls.{Units, Call, Format, Check, Allocate, Assign, Close, Rewind, Delete, Read, Write, Update, touch, done, quietly, checked, transferred, after}
+use Rattle.desk.specs.Answers.{accepts}
+use Rattle.desk.specs.Calls.{Units, Call, Format, Check, BringUp, Allocate, Assign, Close, Rewind, Delete, Read, Write, Update, touch, done, quietly, checked, transferred, after}
 use Rattle.desk.specs.Calls.{newLun, seatOf, step}
 use Rattle.desk.proofs.DeskFitting.{lun-fits}
 use Rattle.promises.specs.Runs.{next}
@@ -36,6 +37,7 @@ use Rattle.promises.proofs.Held.{entryOf}
 use Rattle.promises.proofs.OneLun.{empty-lun}
 use Rattle.promises.proofs.NamedFile.{file-named}
 use Rattle.promises.proofs.Preserved.{other-files-kept}
+use Rattle.promises.proofs.Effects.BroughtUp.{up-stays}
 use Rattle.promises.proofs.Writing.{accepted-write}
 use Rattle.promises.proofs.Updating.{accepted-update}
 
@@ -44,10 +46,10 @@ pub record SameSeat (s t : State) (lun : ℕ) : Type 0 where
   pub was-held : lunAt (s .desk) lun .held ≡ true
   pub same-user : lunAt (t .desk) lun .user ≡ lunAt (s .desk) lun .user
   pub same-code : lunAt (t .desk) lun .offered ≡ lunAt (s .desk) lun .offered
-  pub same-file : entryOf t lun ≡ entryOf s lun
+  pub same-file : SameButCount (entryOf s lun) (entryOf t lun)
 
 pub same-seat : (s : State) (lun : ℕ) → lunAt (s .desk) lun .held ≡ true → SameSeat s s lun
-same-seat s lun h = record { was-held = h; same-user = refl; same-code = refl; same-file = refl }
+same-seat s lun h = record { was-held = h; same-user = refl; same-code = refl; same-file = alike-refl (entryOf s lun) }
 
 -- .. or an accepted assign gave it to its user, for the file of that descriptor and with that code
 pub record NewSeat (c : Call) (s t : State) (lun : ℕ) : Type 0 where
@@ -81,9 +83,9 @@ unfolding Alike
 alike-moved d k j p =
     ⊎-elim (λ e. unfold Alike in alike d _ j e) (λ t. (p, t .1 ∙ ap (λ (i : ℕ). movedTo p (lunAt d i)) (sym (t .0)))) (lun-put d k j (movedTo p (lunAt d k)))
 
--- such a LUN, on an image in which its file has the same entry
+-- such a LUN, on an image in which its file has the same entry but for the count
 kept-seat : (s : State) (img : List ℕ) (d : Desk) (j : ℕ) → Alike (s .desk) d j → lunAt d j .held ≡ true
-    → (lunAt (s .desk) j .held ≡ true → entryAt img (slotHeld s j) ≡ entryOf s j) → SameSeat s (state img d) j
+    → (lunAt (s .desk) j .held ≡ true → SameButCount (entryOf s j) (entryAt img (slotHeld s j))) → SameSeat s (state img d) j
 unfolding Alike movedTo
 kept-seat s img d j (p, e) h f =
     let was : lunAt (s .desk) j .held ≡ true = sym (ap (λ (u : Lun). u .held) e) ∙ h in
@@ -91,7 +93,7 @@ kept-seat s img d j (p, e) h f =
       was-held = was;
       same-user = ap (λ (u : Lun). u .user) e;
       same-code = ap (λ (u : Lun). u .offered) e;
-      same-file = ap (λ (u : Lun). entryAt img (u .slot)) e ∙ f was;
+      same-file = rw (ap (λ (u : Lun). u .slot) e) (f was);
     }
 
 -- a free LUN is not held; an empty desk has no other, and past the sixteenth there is none that is held
@@ -124,14 +126,14 @@ module _ (s : State) (g : Good s) (j : ℕ) (h : lunAt (s .desk) j .held ≡ tru
       record { slot = used-slot (s .image) (slotHeld s j) (o .used); used = o .used }
 
   -- a call that does not touch the file leaves its entry; a transfer to the file does, too
-  untouched : (c : Call) → changes (touch c s) (slotHeld s j) ≡ false → entryAt (step c s .image) (slotHeld s j) ≡ entryOf s j
-  untouched c t = other-files-kept s (g .volume .is-bytes) c (slotHeld s j) its-file t .entry-same
+  untouched : (c : Call) → changes (touch c s) (slotHeld s j) ≡ false → SameButCount (entryOf s j) (entryAt (step c s .image) (slotHeld s j))
+  untouched c t = alike-entry _ _ (other-files-kept s (g .volume .is-bytes) c (slotHeld s j) its-file t .entry-same)
 
-  transferred-to : (c : Call) (lun i n : ℕ) → touch c s ≡ Units (slotHeld s lun) i n → entryAt (step c s .image) (slotHeld s lun) ≡ entryOf s lun
-      → entryAt (step c s .image) (slotHeld s j) ≡ entryOf s j
+  transferred-to : (c : Call) (lun i n : ℕ) → touch c s ≡ Units (slotHeld s lun) i n → SameButCount (entryOf s lun) (entryAt (step c s .image) (slotHeld s lun))
+      → SameButCount (entryOf s j) (entryAt (step c s .image) (slotHeld s j))
   unfolding changes
   transferred-to c lun i n t e = elim (ℕ-discrete (slotHeld s j) (slotHeld s lun)) [
-    | yes q ↦ subst (λ (k : ℕ). entryAt (step c s .image) k ≡ entryAt (s .image) k) (sym q) e
+    | yes q ↦ subst (λ (k : ℕ). SameButCount (entryAt (s .image) k) (entryAt (step c s .image) k)) (sym q) e
     | no far ↦ untouched c (rw t (ne-eqb _ _ (λ q. far (sym q))))
   ]
 
@@ -147,19 +149,20 @@ module _ (s : State) (g : Good s) (j : ℕ) (h : lunAt (s .desk) j .held ≡ tru
 -- One accepted call: each LUN that is held after it was held before it by the same user, or is the one that it assigned
 module _ (s : State) (g : Good s) (j : ℕ) where
   -- the image is as the step left it
-  left-as : (c : Call) → Accepted c s → (lunAt (s .desk) j .held ≡ true → entryAt (step c s .image) (slotHeld s j) ≡ entryOf s j)
-      → lunAt (s .desk) j .held ≡ true → entryAt (done c s .image) (slotHeld s j) ≡ entryOf s j
-  left-as c a f h = sym (ap (λ (o : Outcome). entryAt (o .image) (slotHeld s j)) (a .is)) ∙ f h
+  left-as : (c : Call) → Accepted c s → (lunAt (s .desk) j .held ≡ true → SameButCount (entryOf s j) (entryAt (step c s .image) (slotHeld s j)))
+      → lunAt (s .desk) j .held ≡ true → SameButCount (entryOf s j) (entryAt (done c s .image) (slotHeld s j))
+  left-as c a f h = rw (a .is) at (f h)
 
   wrote : (caller lun sel num : ℕ) (fmt : Bool) (bs : List ℕ) → Accepted (Write caller lun sel num fmt bs) s
-      → entryAt (step (Write caller lun sel num fmt bs) s .image) (slotHeld s lun) ≡ entryOf s lun
+      → SameButCount (entryOf s lun) (entryAt (step (Write caller lun sel num fmt bs) s .image) (slotHeld s lun))
   unfolding fileOf
-  wrote caller lun sel num fmt bs a = accepted-write s caller lun sel num fmt bs (accepts-it _ s a) .entry-same
+  wrote caller lun sel num fmt bs a = accepted-write s caller lun sel num fmt bs (accepts-it _ s a) .same-but-count
 
   updated : (caller lun sel num : ℕ) (fmt : Bool) (bs : List ℕ) → Accepted (Update caller lun sel num fmt bs) s
-      → entryAt (step (Update caller lun sel num fmt bs) s .image) (slotHeld s lun) ≡ entryOf s lun
+      → SameButCount (entryOf s lun) (entryAt (step (Update caller lun sel num fmt bs) s .image) (slotHeld s lun))
   unfolding fileOf
-  updated caller lun sel num fmt bs a = accepted-update s (g .volume .is-bytes) caller lun sel num fmt bs (accepts-it _ s a) .entry-same
+  updated caller lun sel num fmt bs a =
+      alike-entry _ _ (accepted-update s (g .volume .is-bytes) caller lun sel num fmt bs (accepts-it _ s a) .entry-same)
 
   seat-assigned : (caller lun : ℕ) (desc : List ℕ) (mode : ℕ) (end : Bool) (offered : ℕ) → Accepted (Assign caller lun desc mode end offered) s
       → lunAt (putLun (s .desk) lun (newLun (s .image) caller desc mode end offered)) j .held ≡ true
@@ -171,7 +174,7 @@ module _ (s : State) (g : Good s) (j : ℕ) where
       let u : Lun = newLun (s .image) caller desc mode end offered in
       let file : described (entryAt (s .image) (slotOf (s .image) desc)) ≡ desc = sym (same-true _ _ (file-named (assign-told caller lun desc mode end offered s a .named-file))) in
       ⊎-elim
-      (λ e. inl (kept-seat s (s .image) _ j (alike (s .desk) _ j e) h (λ x. refl)))
+      (λ e. inl (kept-seat s (s .image) _ j (alike (s .desk) _ j e) h (λ x. alike-refl (entryOf s j))))
       (λ t.
       inr (record {
         mode = mode;
@@ -186,17 +189,20 @@ module _ (s : State) (g : Good s) (j : ℕ) where
   seat-carried : (c : Call) → Accepted c s → lunAt (done c s .desk) j .held ≡ true → (SameSeat s (carriedTo c s) j) ⊎ (NewSeat c s (carriedTo c s) j)
   unfolding done quietly checked transferred after touch changes
   seat-carried (Format id n) a h = absurd (true≢false (sym h ∙ empty-free j))
-  seat-carried Check a h = inl (kept-seat s (s .image) (s .desk) j (alike (s .desk) (s .desk) j refl) h (λ x. refl))
+  seat-carried Check a h = inl (kept-seat s (s .image) (s .desk) j (alike (s .desk) (s .desk) j refl) h (λ x. alike-refl (entryOf s j)))
+  seat-carried BringUp a h =
+      let same = ap (λ (v : List ℕ). entryAt v (slotHeld s j)) (up-stays s (g .volume .is-sound) a) in
+      inl (kept-seat s (done BringUp s .image) (s .desk) j (alike (s .desk) (s .desk) j refl) h (λ x. alike-entry _ _ same))
   seat-carried (Allocate caller desc k n l rc) a h =
       let c : Call = Allocate caller desc k n l rc in
       inl (kept-seat s (done c s .image) (s .desk) j (alike (s .desk) (s .desk) j refl) h (left-as c a (λ x. untouched s g j x c refl)))
   seat-carried (Assign caller lun desc mode end offered) a h = seat-assigned caller lun desc mode end offered a h
   seat-carried (Close caller lun) a h =
       ⊎-elim
-      (λ e. inl (kept-seat s (s .image) _ j (alike (s .desk) _ j e) h (λ x. refl)))
+      (λ e. inl (kept-seat s (s .image) _ j (alike (s .desk) _ j e) h (λ x. alike-refl (entryOf s j))))
       (λ t. absurd (true≢false (sym h ∙ ap (λ (u : Lun). u .held) (t .1) ∙ free-lun)))
       (lun-put (s .desk) lun j freeLun)
-  seat-carried (Rewind caller lun) a h = inl (kept-seat s (s .image) _ j (alike-moved (s .desk) lun j Fresh) h (λ x. refl))
+  seat-carried (Rewind caller lun) a h = inl (kept-seat s (s .image) _ j (alike-moved (s .desk) lun j Fresh) h (λ x. alike-refl (entryOf s j)))
   seat-carried (Delete caller desc) a h =
       let c : Call = Delete caller desc in
       inl (kept-seat s (done c s .image) (s .desk) j (alike (s .desk) (s .desk) j refl) h (left-as c a (λ x. untouched s g j x c (undeleted s g j x caller desc a))))

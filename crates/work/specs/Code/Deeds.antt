@@ -6,13 +6,14 @@ use Prim.Native.Nat.{ℕ}
 use lib.ListN.{length}
 use Rattle.lists.specs.Parts.{sectors}
 use Rattle.volume.specs.Formatted.{formatted}
-use Rattle.files.specs.Changes.{updated}
+use Rattle.volume.specs.Directory.{entryAt}
+use Rattle.files.specs.Changes.{updated, broughtUp}
 use Rattle.work.specs.declared.Worked.{Worked}
 use Rattle.work.specs.declared.Worked.the-variants.{Denied, Did}
 use Rattle.work.specs.Refusals.{Rule, ruled}
 use Rattle.work.specs.Transfers.{Moving, moving, readRules, reading, storeRules, writeRules, written, writing, roomRules}
 use Rattle.work.specs.Transfers.{replaceRules, updateRules, updating}
-use Rattle.work.specs.Volumes.{formatRules, allocateRules, newFile, placeRules, namedRules, slotOf}
+use Rattle.work.specs.Volumes.{formatRules, bringUpRules, allocateRules, newFile, placeRules, namedRules, slotOf}
 use Rattle.work.specs.declared.Sought.{Sought}
 use Rattle.work.specs.declared.Sought.the-variants as sought
 
@@ -38,25 +39,30 @@ quiet img = deed (Did 0 0 0) img []
 unfoldable pub readDeed : List ℕ → List ℕ → ℕ → Bool → List ℕ → Deed
 readDeed img e i fmt buf = doneBy (readRules img e i fmt (length buf)) img buf (moved (reading img e i fmt buf))
 
-unfoldable pub writeDeed : List ℕ → List ℕ → ℕ → Bool → List ℕ → Deed
-writeDeed img e i fmt bs = doneBy (writeRules img e i fmt bs) img bs (moved (writing img e i fmt bs))
+unfoldable pub writeDeed : List ℕ → ℕ → ℕ → Bool → List ℕ → Deed
+writeDeed img k i fmt bs = doneBy (writeRules img (entryAt img k) i fmt bs) img bs (moved (writing img k i fmt bs))
 
 unfoldable pub updateDeed : List ℕ → List ℕ → ℕ → Bool → List ℕ → Deed
 updateDeed img e i fmt bs = doneBy (updateRules img e i fmt bs) img bs (moved (updating img e i fmt bs))
 
 -- Of a record that is stored as ss for the bytes bs that were sent, which are of a good length: as number i; if it is the next one, as
 -- far as there is room for it; in the place of record i
-unfoldable pub storeDeed : List ℕ → List ℕ → ℕ → List ℕ → List ℕ → Deed
-storeDeed img e i ss bs = doneBy (storeRules img e i ss) img bs (moved (moving e i (length bs) (written e i ss img) bs))
+unfoldable pub storeDeed : List ℕ → ℕ → ℕ → List ℕ → List ℕ → Deed
+storeDeed img k i ss bs =
+    doneBy (storeRules img (entryAt img k) i ss) img bs (moved (moving (entryAt img k) i (length bs) (written k i ss img) bs))
 
-unfoldable pub appendDeed : List ℕ → List ℕ → ℕ → List ℕ → List ℕ → Deed
-appendDeed img e i ss bs = doneBy (roomRules img e ss) img bs (moved (moving e i (length bs) (written e i ss img) bs))
+unfoldable pub appendDeed : List ℕ → ℕ → ℕ → List ℕ → List ℕ → Deed
+appendDeed img k i ss bs =
+    doneBy (roomRules img (entryAt img k) ss) img bs (moved (moving (entryAt img k) i (length bs) (written k i ss img) bs))
 
 unfoldable pub replaceDeed : List ℕ → List ℕ → ℕ → List ℕ → List ℕ → Deed
 replaceDeed img e i ss bs = doneBy (replaceRules img e i ss) img bs (moved (moving e i (length bs) (updated e i ss img) bs))
 
 unfoldable pub formatDeed : List ℕ → List ℕ → ℕ → Deed
 formatDeed img id n = doneBy (formatRules img id n) img [] (quiet (formatted id n (sectors img)))
+
+unfoldable pub bringUpDeed : List ℕ → Deed
+bringUpDeed img = doneBy (bringUpRules img) img [] (quiet (broughtUp img))
 
 unfoldable pub allocateDeed : List ℕ → ℕ → List ℕ → ℕ → ℕ → ℕ → ℕ → Deed
 allocateDeed img caller desc k n l rc = doneBy (allocateRules img caller desc k n l rc) img [] (quiet (newFile img desc k n l rc))

@@ -1,7 +1,7 @@
 use mathlib.Core.Path.{sym, _∙_}
 use borrow.Author.Tests.{not-true, not-false}
 use borrow.Author.Needs.{needs}
-use Rattle.files.proofs.SoundVerdict.{sound-layout}
+use Rattle.files.proofs.check.SoundVerdict.{sound-layout}
 use Rattle.desk.proofs.Openings.{begun-nowhere, begun-misfit, begun-bad, begun-at}
 use Rattle.desk.proofs.Desk.begin.Statement.{statement}
 use Rattle.desk.proofs.Desk.begin.Tie as tie

@@ -8,7 +8,7 @@ use borrow.Author.Needs.{needs}
 use Rattle.lists.specs.Parts.{put}
 use Rattle.records.specs.Records.{encoded}
 use Rattle.records.specs.Streams.{laidOut, laid}
-use Rattle.files.proofs.OpenBlock.{loaded-few, loaded-map}
+use Rattle.files.proofs.map.OpenBlock.{loaded-few, loaded-map}
 use Rattle.files.proofs.appending.write_last.Statement.{statement}
 use Rattle.files.proofs.appending.write_last.Tie as tie
 

@@ -1,6 +1,6 @@
 use mathlib.Core.Path.{sym, _∙_}
 use borrow.Author.Needs.{needs}
-use Rattle.files.proofs.SoundVerdict.{no-layout, checked-no, sound-layout, checked-yes}
+use Rattle.files.proofs.check.SoundVerdict.{no-layout, checked-no, sound-layout, checked-yes}
 use Rattle.files.proofs.check.check.Statement.{statement}
 use Rattle.files.proofs.check.check.Tie as tie
 

@@ -1,27 +1,23 @@
 -- The loop's invariant: the entries from k on are sound if all are.
-use mathlib.Core.Bool.{Bool}
-use mathlib.Core.List.{List, []}
+use mathlib.Core.List.{[]}
 use mathlib.Core.Path.{_≡_, refl, ap, _∙_, sym}
-use Prim.Native.Nat.{ℕ, _≤_, _-_, _<_}
+use Prim.Native.Nat.{_≤_, _-_, _<_}
 use native.Mathlib.Omega.{arith}
 use lib.ListN.{drop, length}
 use denote.Ref.{now}
 use borrow.Author.Needs.{needs}
 use borrow.Author.Tests.{not-true, not-false}
-use Rattle.lists.specs.Lists.{_and_, all}
+use Rattle.lists.specs.Lists.{all}
 use Rattle.lists.proofs.Walks.{all-stop, all-more, all-end}
 use Rattle.volume.specs.Directory.{entries, entryAt}
 use Rattle.volume.proofs.Slots.{length-entry, length-entries}
-use Rattle.files.specs.Files.{tailSound, recordsSound, sound4}
-use Rattle.files.proofs.OpenBlock.{opens-at}
+use Rattle.files.specs.Code.Verdict.{fileSound}
+use Rattle.files.proofs.map.OpenBlock.{opens-at}
 use Rattle.files.proofs.check.contents_sound.Statement.{statement}
 use Rattle.files.proofs.check.contents_sound.Tie as tie
 
-abbrev good : List ℕ → List ℕ → Bool
-good img e = tailSound img e and recordsSound img e
-
 abbrev Inv-loop : tie.InvT-loop
-Inv-loop img p n k₀ k = (k ≤ n) × (all (good img) (entries img) ≡ all (good img) (drop k (entries img)))
+Inv-loop img p n k₀ k = (k ≤ n) × (all (fileSound img) (entries img) ≡ all (fileSound img) (drop k (entries img)))
 
 abbrev μ-loop : tie.MeasureT-loop
 μ-loop img p n k₀ k = n - k
@@ -45,7 +41,7 @@ file-sound-requires c κs =
     (ap length q ∙ length-entry _ _ (s .pre .0) k (omega arith), λ u v. rw q (opens-at img _ (s .pre .0) (s .pre .1) (s .pre .2) k (omega arith) (rw q at u) (rw q at v)))
 
 returns : tie.Need-returns Inv-loop μ-loop
-unfolding entryAt sound4
+unfolding entryAt
 returns c =
     let before = c .before .before .before .before .before .before .before in
     let loop = c .before .before .before .before .loop in
@@ -53,8 +49,8 @@ returns c =
     let l = loop in
     let img = now (s .args .img) in
     let n : l .k < length (entries img) = omega (arith, length-entries img, s .pre .0 .is-dirs) in
-    let q = ap (good img) (c .before .before .entry-of .ensures) in
-    sym (l .inv .1 ∙ all-stop (good img) (entries img) [] (l .k) n (sym q ∙ sym (c .before .file-sound .ensures) ∙ not-true _ (c .if1 .taken)))
+    let q = ap (fileSound img) (c .before .before .entry-of .ensures) in
+    sym (l .inv .1 ∙ all-stop (fileSound img) (entries img) [] (l .k) n (sym q ∙ sym (c .before .file-sound .ensures) ∙ not-true _ (c .if1 .taken)))
 
 add-k : tie.Need-add-k Inv-loop μ-loop
 add-k c = search needs
@@ -71,16 +67,15 @@ loop-again c =
     let l = loop in
     let img = now (s .args .img) in
     let n : l .k < length (entries img) = omega (arith, length-entries img, s .pre .0 .is-dirs) in
-    let q = ap (good img) (c .before .before .entry-of .ensures) in
-    (omega arith, l .inv .1 ∙ all-more (good img) (entries img) [] (l .k) n (sym q ∙ sym (c .before .file-sound .ensures) ∙ not-false _ (c .if1 .left)))
+    let q = ap (fileSound img) (c .before .before .entry-of .ensures) in
+    (omega arith, l .inv .1 ∙ all-more (fileSound img) (entries img) [] (l .k) n (sym q ∙ sym (c .before .file-sound .ensures) ∙ not-false _ (c .if1 .left)))
 
 returns-2 : tie.Need-returns-2 Inv-loop μ-loop
-unfolding sound4
 returns-2 c =
     let s = c .before .before .before .before in
     let l = c .before .loop in
     let img = now (s .args .img) in
-    sym (l .inv .1 ∙ all-end (good img) (entries img) (l .k) (omega (arith, length-entries img, s .pre .0 .is-dirs)))
+    sym (l .inv .1 ∙ all-end (fileSound img) (entries img) (l .k) (omega (arith, length-entries img, s .pre .0 .is-dirs)))
 
 pub contents-sound-spec : {M : Type 1} → statement M
 contents-sound-spec =

@@ -1,6 +1,6 @@
 use mathlib.Core.Path.{sym, _∙_}
+use Rattle.files.proofs.check.FileVerdicts.{sound-none, sound-run, sound-records}
 use borrow.Author.Needs.{needs}
-use Rattle.files.proofs.OpenBlock.{content-none, content-run, content-at}
 use Rattle.files.proofs.check.file_sound.Statement.{statement}
 use Rattle.files.proofs.check.file_sound.Tie as tie
 
@@ -8,13 +8,13 @@ unused-requires : tie.Need-unused-requires
 unused-requires c κs = search needs
 
 returns : tie.Need-returns
-returns c = content-none _ _ (sym (c .before .unused .ensures) ∙ c .if1 .taken)
+returns c = sound-none _ _ (sym (c .before .unused .ensures) ∙ c .if1 .taken)
 
 contiguous-requires : tie.Need-contiguous-requires
 contiguous-requires c κs = search needs
 
 returns-2 : tie.Need-returns-2
-returns-2 c = content-run _ _ (sym (c .before .before .before .unused .ensures) ∙ c .before .before .if1 .left) (sym (c .before .contiguous .ensures) ∙ c .if2 .taken)
+returns-2 c = sound-run _ _ (sym (c .before .before .before .unused .ensures) ∙ c .before .before .if1 .left) (sym (c .before .contiguous .ensures) ∙ c .if2 .taken)
 
 start-requires : tie.Need-start-requires
 start-requires c κs = search needs
@@ -22,23 +22,29 @@ start-requires c κs = search needs
 record-length-requires : tie.Need-record-length-requires
 record-length-requires c κs = search needs
 
-stream-sound-requires : tie.Need-stream-sound-requires
-stream-sound-requires c κs =
-    let pre = c .before .before .before .before .before .before .before .before .pre in
-    let unused = c .before .before .before .before .before .unused in
-    let if1 = c .before .before .before .before .if1 in
-    rw (c .before .start .ensures .0) (pre .1
-    (sym (unused .ensures) ∙ if1 .left)
+stream-count-requires : tie.Need-stream-count-requires
+stream-count-requires c κs =
+    let s = c .before .before .before .before .before .before .before .before in
+    rw (c .before .start .ensures .0) (s .pre .1 (sym (c .before .before .before .before .before .unused .ensures) ∙ c .before .before .before .before .if1 .left)
     (sym (c .before .before .before .contiguous .ensures) ∙ c .before .before .if2 .left))
+
+record-count-requires : tie.Need-record-count-requires
+record-count-requires c κs = search needs
+
+counts-as-requires : tie.Need-counts-as-requires
+counts-as-requires c κs = search needs
 
 returns-3 : tie.Need-returns-3
 returns-3 c =
-    let unused = c .before .before .before .before .before .before .unused in
-    let if1 = c .before .before .before .before .before .if1 in
-    let contiguous = c .before .before .before .before .contiguous in
-    c .stream-sound .ensures ∙ rw (c .before .before .start .ensures .0, c .before .record-length .ensures .0)
-    (sym (content-at _ _ (sym (unused .ensures) ∙ if1 .left)
-    (sym (contiguous .ensures) ∙ c .before .before .before .if2 .left)))
+    let b = c .before .before .before .before .before in
+    c .counts-as .ensures
+    ∙ rw (
+      c .before .before .stream-count .ensures,
+      c .before .record-count .ensures .0,
+      c .before .before .before .before .start .ensures .0,
+      c .before .before .before .record-length .ensures .0,
+    )
+    (sound-records _ _ (sym (b .before .before .before .unused .ensures) ∙ b .before .before .if1 .left) (sym (b .before .contiguous .ensures) ∙ b .if2 .left))
 
 pub file-sound-spec : {M : Type 1} → statement M
 file-sound-spec =
@@ -50,5 +56,7 @@ file-sound-spec =
     returns-2
     start-requires
     record-length-requires
-    stream-sound-requires
+    stream-count-requires
+    record-count-requires
+    counts-as-requires
     returns-3)

@@ -1,7 +1,7 @@
 use mathlib.Core.Path.{sym, _∙_}
 use borrow.Author.Needs.{needs}
 use Rattle.ownership.proofs.Verdicts.{sound-judged}
-use Rattle.files.proofs.SoundVerdict.{judged-nowhere, owners-once, judged-good, judged-bad}
+use Rattle.files.proofs.check.SoundVerdict.{judged-nowhere, owners-once, judged-good, judged-bad}
 use Rattle.files.proofs.check.locate_sound.Statement.{statement}
 use Rattle.files.proofs.check.locate_sound.Tie as tie
 

@@ -9,7 +9,7 @@ use Rattle.records.specs.Records.{wholeRecords}
 use Rattle.records.specs.Code.Mapped.{streamIn}
 use Rattle.records.specs.Code.Spots.{spotOf}
 use Rattle.files.specs.Code.Opens.{streamAt}
-use Rattle.files.proofs.OpenBlock.{loaded-few, loaded, loaded-as}
+use Rattle.files.proofs.map.OpenBlock.{loaded-few, loaded, loaded-as}
 use Rattle.files.proofs.extent.find_stream.Statement.{statement}
 use Rattle.files.proofs.extent.find_stream.Tie as tie
 

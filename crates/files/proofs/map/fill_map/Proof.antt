@@ -10,7 +10,7 @@ use Rattle.lists.specs.Parts.{put}
 use Rattle.lists.proofs.Puts.{put-none}
 use Rattle.ownership.specs.Blocks.{segments}
 use Rattle.ownership.proofs.BlockFacts.{block-facts}
-use Rattle.files.proofs.MapFilled.{firstOf, first-none, segment-ends, segment-room, length-more, fill-more, first-all, put-over}
+use Rattle.files.proofs.map.MapFilled.{firstOf, first-none, segment-ends, segment-room, length-more, fill-more, first-all, put-over}
 use Rattle.files.proofs.map.fill_map.Statement.{statement}
 use Rattle.files.proofs.map.fill_map.Tie as tie
 

@@ -8,7 +8,7 @@ use borrow.Author.Needs.{needs}
 use Rattle.lists.specs.Parts.{put}
 use Rattle.lists.specs.Lists.{range}
 use Rattle.lists.proofs.Puts.{put-none}
-use Rattle.files.proofs.MapFilled.{run-filled}
+use Rattle.files.proofs.map.MapFilled.{run-filled}
 use Rattle.files.proofs.map.fill_run.Statement.{statement}
 use Rattle.files.proofs.map.fill_run.Tie as tie
 

@@ -1,7 +1,7 @@
 use mathlib.Core.Path.{_∙_}
 use native.Mathlib.Omega.{arith}
 use borrow.Author.Needs.{needs}
-use Rattle.files.proofs.OpenBlock.{load-asks}
+use Rattle.files.proofs.map.OpenBlock.{load-asks}
 use Rattle.files.proofs.map.load_map.Statement.{statement}
 use Rattle.files.proofs.map.load_map.Tie as tie
 

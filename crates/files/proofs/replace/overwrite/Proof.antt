@@ -7,7 +7,7 @@ use borrow.Author.Needs.{needs}
 use Rattle.lists.proofs.LentParts.{wrote}
 use Rattle.lists.proofs.Walks.{over-all}
 use Rattle.files.specs.Changes.{overwritten}
-use Rattle.files.proofs.SlotInUse.{used-run}
+use Rattle.files.proofs.slot.SlotInUse.{used-run}
 use Rattle.files.proofs.replace.overwrite.Statement.{statement}
 use Rattle.files.proofs.replace.overwrite.Tie as tie
 

@@ -4,8 +4,8 @@ use denote.Ref.{now}
 use borrow.Author.Needs.{needs}
 use Rattle.records.proofs.StreamBytes.{known}
 use Rattle.ownership.specs.Blocks.{block}
-use Rattle.files.proofs.UpdateIs.{spot-past, replaced-past, spot-there, spot-long, replaced-other, used-distinct, spot-fits, put-updated, replaced-done}
-use Rattle.files.proofs.SlotInUse.{used-opens}
+use Rattle.files.proofs.replace.UpdateIs.{spot-past, replaced-past, spot-there, spot-long, replaced-other, used-distinct, spot-fits, put-updated, replaced-done}
+use Rattle.files.proofs.slot.SlotInUse.{used-opens}
 use Rattle.files.proofs.replace.update_record.Statement.{statement}
 use Rattle.files.proofs.replace.update_record.Tie as tie
 

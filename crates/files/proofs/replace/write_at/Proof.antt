@@ -4,7 +4,7 @@ use lib.Seq.{length-take-le}
 use borrow.Author.Needs.{needs}
 use Rattle.lists.specs.Lists.{distinct}
 use Rattle.files.specs.Code.Opens.{storedAt}
-use Rattle.files.proofs.OpenBlock.{loaded-few, loaded-map, loaded}
+use Rattle.files.proofs.map.OpenBlock.{loaded-few, loaded-map, loaded}
 use Rattle.files.proofs.replace.write_at.Statement.{statement}
 use Rattle.files.proofs.replace.write_at.Tie as tie
 

@@ -1,41 +1,30 @@
--- The loop's invariant: what is left stands as the whole does, and it is known how far each LUN passed reaches.
+-- The loop's invariant: what is left stands as the whole does.
 use mathlib.Core.Path.{_≡_, refl, sym, _∙_}
-use Prim.Native.Nat.{ℕ, _<_, _-_}
+use Prim.Native.Nat.{_-_}
 use native.Mathlib.Omega.{arith}
-use lib.ListN.{drop, length, getD, length-set}
-use denote.Ref.{now}
+use lib.ListN.{drop, length}
 use borrow.Author.Needs.{needs}
 use borrow.Author.Tests.{not-true, not-false}
 use Rattle.lists.specs.Lists.{all}
 use Rattle.lists.proofs.Lists.{all-at}
 use Rattle.lists.proofs.Walks.{all-stop, all-more, all-end}
+use Rattle.luns.specs.Code.Fits.{stands}
 use Rattle.luns.specs.Luns.{freeLun}
-use Rattle.luns.specs.Code.Fits.{stands, reach}
 use Rattle.luns.proofs.Arrays.{length-of-map}
-use Rattle.luns.proofs.FitLaws.{known-more}
 use Rattle.luns.proofs.fits.all_stand.Statement.{statement}
 use Rattle.luns.proofs.fits.all_stand.Tie as tie
 
 abbrev Inv-loop : tie.InvT-loop
-Inv-loop image p luns known₀ j₀ known j =
-    (all (stands image) luns ≡ all (stands image) (drop j luns))
-    × (length known ≡ 16)
-    × ((k : ℕ) → k < j → getD known k 0 ≡ reach image (getD luns k freeLun))
+Inv-loop image p luns j₀ j = all (stands image) luns ≡ all (stands image) (drop j luns)
 
 abbrev μ-loop : tie.MeasureT-loop
-μ-loop image p luns known₀ j₀ known j = 16 - j
+μ-loop image p luns j₀ j = 16 - j
 
 long : (c : tie.Start Inv-loop μ-loop) → length (c .args .t3) ≡ 16
 long c = search (needs, length-of-map)
 
 loop-holds : tie.Need-loop-holds Inv-loop μ-loop
-loop-holds c = (refl, refl, λ k h. absurd (omega arith))
-
-reach-requires : tie.Need-reach-requires Inv-loop μ-loop
-reach-requires c κs =
-    let s = c .before .before .before in
-    let l = c .before .loop in
-    (s .pre .0, s .pre .1, s .pre .2, omega arith, l .inv .2)
+loop-holds c = refl
 
 mul-u : tie.Need-mul-u Inv-loop μ-loop
 mul-u c = search needs
@@ -46,25 +35,15 @@ array-copy-out-u c = search needs
 stands-requires : tie.Need-stands-requires Inv-loop μ-loop
 unfolding freeLun
 stands-requires c κs =
-    let at-before = c .before .before .before .before .before in
-    let before = at-before in
-    let s = before in
-    (s .pre .0, all-at _ _ _ freeLun (s .pre .2) (omega (arith, long s)), c .before .reach .ensures)
+    let s = c .before .before .before .before in
+    (s .pre .0, s .pre .1, all-at _ _ _ freeLun (s .pre .2) (omega (arith, long s)))
 
 returns : tie.Need-returns Inv-loop μ-loop
 unfolding freeLun
 returns c =
-    let at-before = c .before .before .before .before .before in
-    let before = at-before in
-    let at = before in
+    let at = c .before .before .before .before in
     let l = at .loop in
-    sym (l .inv .0 ∙ all-stop _ _ freeLun (l .j) (omega (arith, long (at .before .before))) (sym (c .before .stands .ensures) ∙ not-true _ (c .if1 .taken)))
-
-mul-known : tie.Need-mul-known Inv-loop μ-loop
-mul-known c = search needs
-
-array-write-known : tie.Need-array-write-known Inv-loop μ-loop
-array-write-known c = search needs
+    sym (l .inv ∙ all-stop _ _ freeLun (l .j) (omega (arith, long (at .before .before))) (sym (c .before .stands .ensures) ∙ not-true _ (c .if1 .taken)))
 
 add-j : tie.Need-add-j Inv-loop μ-loop
 add-j c = search needs
@@ -75,19 +54,14 @@ loop-less c = search needs
 loop-again : tie.Need-loop-again Inv-loop μ-loop
 unfolding freeLun
 loop-again c =
-    let far = c .before .before .before in
-    let l = far .before .before .loop in
-    let s = far .before .before .before .before in
-    let n = far .reach .result in (
-      l .inv .0 ∙ all-more _ _ freeLun (l .j) (omega (arith, long s)) (sym (c .before .stands .ensures) ∙ not-false _ (c .if1 .left)),
-      length-set (l .known) (l .j) n ∙ l .inv .1,
-      known-more (now (s .args .image)) (s .args .t3) (l .known) (l .j) n (omega arith) (l .inv .2) (far .reach .ensures),
-    )
+    let at = c .before .before .before .before in
+    let l = at .loop in
+    l .inv ∙ all-more _ _ freeLun (l .j) (omega (arith, long (at .before .before))) (sym (c .before .stands .ensures) ∙ not-false _ (c .if1 .left))
 
 returns-2 : tie.Need-returns-2 Inv-loop μ-loop
 returns-2 c =
     let l = c .before .loop in
-    sym (l .inv .0 ∙ all-end _ _ (l .j) (omega (arith, long (c .before .before .before))))
+    sym (l .inv ∙ all-end _ _ (l .j) (omega (arith, long (c .before .before .before))))
 
 pub all-stand-spec : {M : Type 1} → statement M
 all-stand-spec =
@@ -96,13 +70,10 @@ all-stand-spec =
     Inv-loop
     μ-loop
     loop-holds
-    reach-requires
     mul-u
     array-copy-out-u
     stands-requires
     returns
-    mul-known
-    array-write-known
     add-j
     loop-less
     loop-again

@@ -1,5 +1,5 @@
 use mathlib.Core.Path.{refl, ap, _∙_}
-use lib.Dec.{eqb, leb}
+use lib.Dec.{leb}
 use borrow.Author.Needs.{needs}
 use Rattle.lists.specs.Parts.{part}
 use Rattle.lists.proofs.Bools.{and-of}
@@ -37,23 +37,19 @@ read-code-requires c κs = search needs
 code-allowed-requires : tie.Need-code-allowed-requires
 code-allowed-requires c κs = search needs
 
-word-at-requires : tie.Need-word-at-requires
-word-at-requires c κs = search needs
-
 extent-good-requires : tie.Need-extent-good-requires
 extent-good-requires c κs = search needs
 
 returns : tie.Need-returns
 unfolding valid described part
 returns c =
-    let k = c .before .before .before .before .before .before .before .before .kind in
-    let ca = c .before .before .code-allowed in
+    let k = c .before .before .before .before .before .before .before .kind in
+    let ca = c .before .code-allowed in
     and-of
     (and-of
-    (and-of
-    (and-of (and-of (and-of refl (ap (λ n. leb n 1) (k .ensures .0))) (c .before .before .before .before .before .before .descriptor .ensures)) refl)
-    (ca .ensures ∙ rw (c .before .before .before .before .owner .ensures .0, c .before .before .before .read-code .ensures)))
-    (ap (λ n. eqb n 0) (c .before .word-at .ensures .0))) (c .extent-good .ensures)
+    (and-of (and-of (and-of refl (ap (λ n. leb n 1) (k .ensures .0))) (c .before .before .before .before .before .descriptor .ensures)) refl)
+    (ca .ensures ∙ rw (c .before .before .before .owner .ensures .0, c .before .before .read-code .ensures)))
+    (c .extent-good .ensures)
 
 pub valid-spec : {M : Type 1} → statement M
 valid-spec =
@@ -69,6 +65,5 @@ valid-spec =
     owner-requires
     read-code-requires
     code-allowed-requires
-    word-at-requires
     extent-good-requires
     returns)

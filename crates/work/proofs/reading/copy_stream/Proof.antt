@@ -4,7 +4,7 @@ use native.Mathlib.Omega.{arith}
 use lib.Seq.{length-take-le}
 use borrow.Author.Needs.{needs}
 use Rattle.numbers.specs.Numbers.{mostSectors}
-use Rattle.files.proofs.OpenBlock.{loaded-few}
+use Rattle.files.proofs.map.OpenBlock.{loaded-few}
 use Rattle.work.proofs.Copies.{opened, copy-asks, copied}
 use Rattle.work.proofs.reading.copy_stream.Statement.{statement}
 use Rattle.work.proofs.reading.copy_stream.Tie as tie

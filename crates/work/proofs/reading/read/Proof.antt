@@ -1,8 +1,8 @@
 use mathlib.Core.Path.{sym, _∙_}
 use native.Mathlib.Omega.{arith}
 use borrow.Author.Needs.{needs}
-use Rattle.files.proofs.SlotInUse.{used-run}
-use Rattle.work.proofs.Bounds.{run-few}
+use Rattle.files.proofs.slot.SlotInUse.{used-run}
+use Rattle.files.proofs.Bounds.{run-few}
 use Rattle.work.proofs.Readings.{run-read, text-read, plain-read}
 use Rattle.work.proofs.reading.read.Statement.{statement}
 use Rattle.work.proofs.reading.read.Tie as tie

@@ -9,12 +9,12 @@ use Rattle.lists.specs.Parts.{over}
 use Rattle.volume.specs.Directory.{entryAt}
 use Rattle.records.proofs.StreamBytes.{known}
 use Rattle.files.specs.Files.{recordAt}
-use Rattle.files.proofs.UpdateIs.{spot-past}
+use Rattle.files.proofs.replace.UpdateIs.{spot-past}
 use Rattle.work.specs.Refusals.{ruled}
 use Rattle.work.specs.Code.Deeds.{doneBy}
 use Rattle.work.specs.Code.Runs.{readOne}
 use Rattle.work.proofs.Spots.{Told, told}
-use Rattle.work.proofs.Bounds.{stream-few, records-few}
+use Rattle.files.proofs.Bounds.{stream-few, records-few}
 use Rattle.work.proofs.reading.read_one.Statement.{statement}
 use Rattle.work.proofs.reading.read_one.Tie as tie
 

@@ -11,12 +11,12 @@ use Rattle.text.specs.Packing.{unpacked}
 use Rattle.volume.specs.Directory.{entryAt}
 use Rattle.records.proofs.StreamBytes.{known}
 use Rattle.files.specs.Files.{recordAt}
-use Rattle.files.proofs.UpdateIs.{spot-past}
+use Rattle.files.proofs.replace.UpdateIs.{spot-past}
 use Rattle.work.specs.Refusals.{ruled}
 use Rattle.work.specs.Code.Deeds.{doneBy}
 use Rattle.work.specs.Code.Runs.{readOne}
 use Rattle.work.proofs.Spots.{Told, told, copied-front}
-use Rattle.work.proofs.Bounds.{records-few}
+use Rattle.files.proofs.Bounds.{records-few}
 use Rattle.work.proofs.reading.read_text.Statement.{statement}
 use Rattle.work.proofs.reading.read_text.Tie as tie
 

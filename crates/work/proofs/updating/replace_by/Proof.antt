@@ -4,7 +4,7 @@ use denote.Ref.{now}
 use borrow.Author.Needs.{needs}
 use Rattle.files.specs.declared.replace.Replaced.the-variants.{Past, Other, Done}
 use Rattle.work.proofs.Updates.{replaced-there, update-came}
-use Rattle.work.proofs.Bounds.{records-few}
+use Rattle.files.proofs.Bounds.{records-few}
 use Rattle.work.proofs.updating.replace_by.Statement.{statement}
 use Rattle.work.proofs.updating.replace_by.Tie as tie
 

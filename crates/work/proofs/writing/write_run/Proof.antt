@@ -9,7 +9,7 @@ use Rattle.volume.specs.Directory.{entryAt, size}
 use Rattle.work.specs.Transfers.{oddLength}
 use Rattle.work.specs.Code.Runs.{crosses}
 use Rattle.work.proofs.Writes.{run-odd, odd-few, run-crosses, run-bytes, run-start, run-written}
-use Rattle.work.proofs.Bounds.{run-few}
+use Rattle.files.proofs.Bounds.{run-few}
 use Rattle.work.proofs.writing.write_run.Statement.{statement}
 use Rattle.work.proofs.writing.write_run.Tie as tie
 

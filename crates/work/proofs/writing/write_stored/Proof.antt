@@ -2,7 +2,7 @@ use mathlib.Core.Path.{_∙_}
 use native.Mathlib.Omega.{arith}
 use borrow.Author.Needs.{needs}
 use Rattle.work.proofs.Writes.{record-past, record-there, record-next}
-use Rattle.work.proofs.Bounds.{extent-few}
+use Rattle.files.proofs.Bounds.{extent-few}
 use Rattle.work.proofs.writing.write_stored.Statement.{statement}
 use Rattle.work.proofs.writing.write_stored.Tie as tie
 

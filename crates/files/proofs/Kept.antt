@@ -1,0 +1,5 @@
+pub mod EntryAlike
+pub mod FileSame
+pub mod FrameKept
+pub mod RecordsSame
+pub mod Recounted

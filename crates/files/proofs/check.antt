@@ -1,0 +1,2 @@
+pub mod FileVerdicts
+pub mod SoundVerdict

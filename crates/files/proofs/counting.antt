@@ -1,0 +1,2 @@
+pub mod BroughtUp
+pub mod CountLoops

@@ -1,0 +1,2 @@
+pub mod MapFilled
+pub mod OpenBlock

@@ -1,0 +1,2 @@
+pub mod RecordUpdated
+pub mod UpdateIs

@@ -1,0 +1,2 @@
+pub mod SlotInUse
+pub mod UsedSlots
