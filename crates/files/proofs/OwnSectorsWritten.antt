@@ -4,16 +4,17 @@ use mathlib.Core.Path.{_≡_, ap, sym, _∙_}
 use mathlib.Core.Bool.{true}
 use Prim.Native.Nat.{ℕ, _*_, _<_}
 use native.Mathlib.Omega.{arith}
-use lib.ListN.{set}
+use lib.ListN.{length, set}
 use lib.Seq.{set-getD}
 use Rattle.lists.specs.Lists.{among, _and_, _or_, range, distinct}
 use Rattle.lists.specs.Parts.{sectors}
 use Rattle.lists.proofs.Keeps.{Keeps, among-append-left}
 use Rattle.lists.proofs.Lists.{all-at}
-use Rattle.volume.specs.Volume.{dirs, satAt, sat, system}
+use Rattle.volume.specs.Volume.{dirs, satAt, sat, system, layoutOf}
 use Rattle.volume.specs.Directory.{entries, entryAt, unused, valid, namesDiffer}
 use Rattle.volume.specs.Sat.{satOf, freeSectors, free}
-use Rattle.volume.proofs.Slots.{length-entries}
+use Rattle.volume.proofs.Located.{located-sound}
+use Rattle.volume.proofs.Slots.{length-entries, length-entry}
 use Rattle.ownership.specs.Blocks.{placed}
 use Rattle.ownership.specs.Owners.{owned, allOwned}
 use Rattle.files.specs.Files.{tailSound, recordsSound, countIs, countsAre, recordsIn, sound}
@@ -41,6 +42,10 @@ module _ (v : List ℕ) (F : Facts v) (k : ℕ) (hk : k < 8 * dirs v) where
   pub slot-valid : unused (entryAt v k) or valid (entryAt v k) ≡ true
   unfolding entryAt
   slot-valid = all-at (λ e. unused e or valid e) (entries v) k [] (F .each-valid) (omega (arith, length-entries v))
+
+  pub slot-length : length (entryAt v k) ≡ 32
+  unfolding layoutOf
+  slot-length = length-entry v (layoutOf v) (located-sound v (F .one)) k hk
 
   pub slot-placed : placed v (entryAt v k) ≡ true
   unfolding entryAt

@@ -13,18 +13,18 @@ use Rattle.lists.proofs.LentParts.{byte-part}
 use Rattle.lists.proofs.PutBytes.{byte-put-outside}
 use Rattle.lists.proofs.Tests.{or-left, or-right}
 use Rattle.volume.specs.Directory.{entries, entryAt, unused, contiguous, recordCount, withCount}
-use Rattle.volume.specs.Volume.{dirAt, dirs, layoutOf}
+use Rattle.volume.specs.Volume.{dirAt, dirs}
 use Rattle.volume.proofs.EntriesMade.{made-same, made-length-all}
-use Rattle.volume.proofs.EntryCounted.{byte-before, none-again, length-countedAs}
+use Rattle.volume.proofs.EntryCounted.{byte-before, none-again}
 use Rattle.volume.proofs.LayoutKept.{keeps-dirAt, keeps-dirs}
-use Rattle.volume.proofs.Located.{located-sound}
-use Rattle.volume.proofs.Slots.{length-entry, entry-part}
+use Rattle.volume.proofs.Slots.{entry-part}
 use Rattle.files.specs.Changes.{countedIn, broughtUp}
 use Rattle.files.specs.Files.{recordsIn, noCount, countsAre}
 use Rattle.files.proofs.OwnersApart.{last-not}
+use Rattle.files.proofs.OwnSectorsWritten.{slot-length}
 use Rattle.files.proofs.slot.SlotInUse.{count-right}
 use Rattle.files.proofs.SoundFacts.{Facts, CountsTrue}
-use Rattle.files.proofs.counting.BroughtUp.{up-entry, up-other, up-sequential, up-recounted}
+use Rattle.files.proofs.counting.BroughtUp.{length-countedIn, dir-inside, up-entry, up-other, up-sequential, up-recounted}
 
 -- an entry of a volume from before there were counts
 pub none-at : (v : List ℕ) → Facts v → countsAre noCount v ≡ true → (k : ℕ) → k < 8 * dirs v → unused (entryAt v k) ≡ false → contiguous (entryAt v k) ≡ false
@@ -39,21 +39,10 @@ module _ (v : List ℕ) (F : Facts v) where
   abbrev at : ℕ
   at = 256 * dirAt v
 
-  inside : 256 * (dirAt v + dirs v) ≤ length v
-  inside = omega (arith, F .dir-in, F .long)
-
-  long : (e : List ℕ) → length e ≡ 32 → length (countedIn v e) ≡ 32
-  unfolding countedIn
-  long e h = length-countedAs (recordsIn v e) e h
-
-  length-slot : (k : ℕ) → k < 8 * dirs v → length (entryAt v k) ≡ 32
-  unfolding layoutOf
-  length-slot k h = length-entry v (layoutOf v) (located-sound v (F .one)) k h
-
   -- counts that were right, and zero
   pub up-none : CountsTrue v → countsAre noCount v ≡ true → broughtUp v ≡ v
   unfolding broughtUp
-  up-none t z = made-same (countedIn v) v inside long (λ k h. go k h (unused (entryAt v k) or contiguous (entryAt v k)) refl)
+  up-none t z = made-same (countedIn v) v (dir-inside v F) (length-countedIn v) (λ k h. go k h (unused (entryAt v k) or contiguous (entryAt v k)) refl)
     where
       go : (k : ℕ) → k < 8 * dirs v → (b : Bool) → unused (entryAt v k) or contiguous (entryAt v k) ≡ b → countedIn v (entryAt v k) ≡ entryAt v k
       go k h true q = up-other v F (entryAt v k) q
@@ -62,7 +51,7 @@ module _ (v : List ℕ) (F : Facts v) where
           let c : contiguous (entryAt v k) ≡ false = or-right _ _ q in
           let none : recordCount (entryAt v k) ≡ 0 = none-at v F z k h u c in
           let many : recordsIn v (entryAt v k) ≡ 0 = sym (count-right v F (recordsIn v) t k h u c) ∙ none in
-          up-sequential v F (entryAt v k) u c ∙ ap (λ (n : ℕ). withCount n (entryAt v k)) many ∙ none-again (entryAt v k) (length-slot k h) none
+          up-sequential v F (entryAt v k) u c ∙ ap (λ (n : ℕ). withCount n (entryAt v k)) many ∙ none-again (entryAt v k) (slot-length v F k h) none
 
   -- the bytes of one entry
   same-dirAt : dirAt v′ ≡ dirAt v
@@ -91,14 +80,14 @@ module _ (v : List ℕ) (F : Facts v) where
           let u : unused (entryAt v k) ≡ false = or-left _ _ q in
           let c : contiguous (entryAt v k) ≡ false = or-right _ _ q in
           ap (λ (x : List ℕ). byte x r) (up-sequential v F (entryAt v k) u c)
-          ∙ byte-before (recordsIn v (entryAt v k)) (entryAt v k) (length-slot k h) r (f u c)
+          ∙ byte-before (recordsIn v (entryAt v k)) (entryAt v k) (slot-length v F k h) r (f u c)
 
   all-long : length (flat (countedIn v) (entries v)) ≡ 256 * dirs v
-  all-long = made-length-all (countedIn v) v inside long
+  all-long = made-length-all (countedIn v) v (dir-inside v F) (length-countedIn v)
 
   outside : (j : ℕ) → (j < at) ⊎ (at + 256 * dirs v ≤ j) → byte v′ j ≡ byte v j
   unfolding broughtUp
-  outside j h = byte-put-outside at (flat (countedIn v) (entries v)) v (omega (arith, all-long, inside)) j (⊎-elim (λ l. inl l) (λ g. inr (omega (arith, all-long, g))) h)
+  outside j h = byte-put-outside at (flat (countedIn v) (entries v)) v (omega (arith, all-long, dir-inside v F)) j (⊎-elim (λ l. inl l) (λ g. inr (omega (arith, all-long, g))) h)
 
   pub up-elsewhere : (j : ℕ) → ((k : ℕ) → k < 8 * dirs v → unused (entryAt v k) ≡ false → contiguous (entryAt v k) ≡ false
       → (j < 256 * dirAt v + 32 * k + 28) ⊎ (256 * dirAt v + 32 * k + 32 ≤ j)) → byte (broughtUp v) j ≡ byte v j

@@ -1,7 +1,7 @@
 -- Tests, members and joins of lists, one element after the other or left out.
 use mathlib.Core.Path.{_≡_, refl, sym, ap, _∙_}
 use mathlib.Core.Bool.{true, true≢false, Bool, false, not}
-use mathlib.Core.List.{List, [], _∷_, _++_, append-assoc}
+use mathlib.Core.List.{List, [], _∷_, _++_, map, append-assoc}
 use Prim.Native.Nat.{ℕ, zero, suc, _<_}
 use native.Mathlib.Nat.{not-suc-le-zero, le-of-suc-le-suc}
 use lib.Dec.{eqb}
@@ -117,6 +117,12 @@ module _ {A : Type 0} (r : A → Bool) where
   unfolding all
   all-append [] t p q = q
   all-append (y ∷ s) t p q = both-true (r y) (all r (s ++ t)) (and-left _ _ p) (all-append s t (and-right _ _ p) q)
+
+-- an element of a list that was made from another
+pub getD-map : {A B : Type 0} (f : A → B) (a : A) (b : B) (xs : List A) (k : ℕ) → k < length xs → getD (map f xs) k b ≡ f (getD xs k a)
+getD-map f a b [] k l = absurd (not-suc-le-zero l)
+getD-map f a b (x ∷ xs) zero l = refl
+getD-map f a b (x ∷ xs) (suc k) l = getD-map f a b xs k (le-of-suc-le-suc l)
 
 -- the lists of a joined list
 pub flat-append : {A B : Type 0} (f : A → List B) (xs ys : List A) → flat f (xs ++ ys) ≡ flat f xs ++ flat f ys

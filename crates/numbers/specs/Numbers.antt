@@ -1,5 +1,5 @@
 -- The service's numbers. Defines RULES, Words and numbers. Sectors of 256 bytes stand as 256 throughout.
-use Prim.Native.Nat.{ℕ, _+_, _*_, _/_}
+use Prim.Native.Nat.{ℕ, _+_, _/_}
 
 -- RULES, Words and numbers: T, the sectors of a volume, is 16 to 2,048
 abbrev pub fewestSectors : ℕ
@@ -11,10 +11,6 @@ mostSectors = 2048
 -- RULES, Words and numbers: D, the directory's sectors, is 1 to 8
 abbrev pub mostDirs : ℕ
 mostDirs = 8
-
--- RULES, Words and numbers: eight entries in each of them, so up to 64 files
-abbrev pub mostFiles : ℕ
-mostFiles = 8 * mostDirs
 
 -- RULES, Words and numbers: 0 to 62 segments of a sequential file
 abbrev pub mostSegments : ℕ

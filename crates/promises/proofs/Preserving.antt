@@ -83,10 +83,12 @@ module _ (s t : State) (j : ℕ) (e ws : List ℕ) (C : Changed (s .image) (t .i
       let S = file-other v v′ j e ws C k (f .slot) n (f .used) in
       record {
         entry-same = entry-other v v′ j e ws C k n;
-        block-same = S .block-same (f .used);
-        places-same = S .logical-same;
-        bytes-same = S .stored-same;
-        records-same = records-same v v′ (entryAt v k) S (f .used);
+        contents-same = record {
+          block-same = S .block-same (f .used);
+          places-same = S .logical-same;
+          bytes-same = S .stored-same;
+          records-same = records-same v v′ (entryAt v k) S (f .used);
+        };
       }
 
   same-around : SameFrame v v′

@@ -121,12 +121,15 @@ module _ (v v′ : List ℕ) (k i : ℕ) where
   -- the same file has the same units
   pub lasting-same : SameFile v v′ k → i < extent v (entryAt v k) → Lasting v v′ k i
   lasting-same S h =
-      lasting-by (alike-entry (entryAt v k) (entryAt v′ k) (S .entry-same)) (omega (arith, h, extent-kept v v′ (entryAt v k) (S .records-same)))
-      (unit-kept v v′ (entryAt v k) i (S .bytes-same) (S .records-same) h)
+      lasting-by (alike-entry (entryAt v k) (entryAt v′ k) (S .entry-same)) (omega (arith, h, extent-kept v v′ (entryAt v k) (S .contents-same .records-same)))
+      (unit-kept v v′ (entryAt v k) i (S .contents-same .bytes-same) (S .contents-same .records-same) h)
 
 -- nothing happened to the image; one change after the other
 pub same-file : (v : List ℕ) (k : ℕ) → SameFile v v k
-same-file v k = record { entry-same = refl; block-same = λ q. refl; places-same = refl; bytes-same = refl; records-same = λ q. refl }
+same-file v k = record {
+  entry-same = refl;
+  contents-same = record { block-same = λ q. refl; places-same = refl; bytes-same = refl; records-same = λ q. refl };
+}
 
 pub same-frame : (v : List ℕ) → SameFrame v v
 same-frame v = record { as-long = refl; vid-same = refl; trailer-same = refl }

@@ -9,9 +9,7 @@ use Rattle.lists.specs.Parts.{byte}
 use Rattle.volume.specs.Directory.{entryAt, contiguous, recordCount, SameButCount}
 use Rattle.volume.specs.Sat.{free}
 use Rattle.volume.specs.Volume.{dirAt}
-use Rattle.ownership.specs.Blocks.{block}
-use Rattle.ownership.specs.Owners.{logical}
-use Rattle.files.specs.Files.{stored, records, extent, sound, soundBefore}
+use Rattle.files.specs.Files.{records, extent, sound, soundBefore}
 use Rattle.luns.specs.Luns.{fits}
 use Rattle.work.specs.declared.Refusal.the-variants.{NotSound}
 use Rattle.desk.specs.Desk.{State}
@@ -19,6 +17,7 @@ use Rattle.desk.specs.Answers.{Outcome}
 use Rattle.desk.specs.Calls.{Format, BringUp, step}
 use Rattle.desk.specs.declared.Answer.the-variants.{Done, Refused}
 use Rattle.desk.specs.declared.Report.the-variants.{Moved}
+use Rattle.promises.specs.Contents.{SameContents}
 use Rattle.promises.specs.Runs.{Visit, through}
 use Rattle.promises.specs.Sectors.{Accepts, File, VisitBytes}
 
@@ -51,14 +50,6 @@ NoCountByte img j =
     (k : ℕ) → File img k → contiguous (entryAt img k) ≡ false
     → (j < 256 * dirAt img + 32 * k + 28) ⊎ (256 * dirAt img + 32 * k + 32 ≤ j)
 
--- slot k holds the same file: the entry but for the count, access block, sectors, bytes and, if it is sequential, records
-pub record SameRecords (img img′ : List ℕ) (k : ℕ) : Type 0 where
-  pub same-but-count : SameButCount (entryAt img k) (entryAt img′ k)
-  pub block-same : contiguous (entryAt img k) ≡ false → block img′ (entryAt img k) ≡ block img (entryAt img k)
-  pub places-same : logical img′ (entryAt img k) ≡ logical img (entryAt img k)
-  pub bytes-same : stored img′ (entryAt img k) ≡ stored img (entryAt img k)
-  pub records-same : contiguous (entryAt img k) ≡ false → records img′ (entryAt img′ k) ≡ records img (entryAt img k)
-
 -- "bring_up's result is sound, holds the same records and files, and differs in those bytes alone"; "leaves the desk as it is", and a desk
 -- that fitted goes on fitting
 pub record BringsUp (s : State) (o : Outcome) : Type 0 where
@@ -67,7 +58,8 @@ pub record BringsUp (s : State) (o : Outcome) : Type 0 where
   pub as-long : length (o .image) ≡ length (s .image)
   pub only-counts : (j : ℕ) → NoCountByte (s .image) j → byte (o .image) j ≡ byte (s .image) j
   pub entries-same : (k : ℕ) → SameButCount (entryAt (s .image) k) (entryAt (o .image) k)
-  pub files-same : (k : ℕ) → File (s .image) k → SameRecords (s .image) (o .image) k
+  pub files-same : (k : ℕ) → File (s .image) k
+      → SameContents (s .image) (o .image) (entryAt (s .image) k) (entryAt (o .image) k)
   pub as-many-free : free (o .image) ≡ free (s .image)
   pub desk-kept : o .desk ≡ s .desk
   pub still-fits : fits (s .image) (s .desk .luns) ≡ true → fits (o .image) (o .desk .luns) ≡ true

@@ -107,13 +107,17 @@ AcceptedRead =
     (s : State) (caller lun sel num : ℕ) (fmt : Bool) (buf : List ℕ) → Accepts (Read caller lun sel num fmt buf) s
     → (bs : List ℕ) × HandedOver s (step (Read caller lun sel num fmt buf) s) lun (aimed s lun sel num) fmt buf bs
 
--- slot k holds the same file: entry, access block, sectors, bytes and, if it is sequential, records
+-- the file of entry e is as it was, and has entry e′ now: access block, sectors, bytes and, if it is sequential, records
+pub record SameContents (img img′ e e′ : List ℕ) : Type 0 where
+  pub block-same : contiguous e ≡ false → block img′ e′ ≡ block img e
+  pub places-same : logical img′ e′ ≡ logical img e
+  pub bytes-same : stored img′ e′ ≡ stored img e
+  pub records-same : contiguous e ≡ false → records img′ e′ ≡ records img e
+
+-- slot k holds the same file, with the same entry
 pub record SameFile (img img′ : List ℕ) (k : ℕ) : Type 0 where
   pub entry-same : entryAt img′ k ≡ entryAt img k
-  pub block-same : contiguous (entryAt img k) ≡ false → block img′ (entryAt img k) ≡ block img (entryAt img k)
-  pub places-same : logical img′ (entryAt img k) ≡ logical img (entryAt img k)
-  pub bytes-same : stored img′ (entryAt img k) ≡ stored img (entryAt img k)
-  pub records-same : contiguous (entryAt img k) ≡ false → records img′ (entryAt img k) ≡ records img (entryAt img k)
+  pub contents-same : SameContents img img′ (entryAt img k) (entryAt img k)
 
 -- RULES, The calls: a call leaves every file that it does not touch as it was
 abbrev pub OtherFilesKept : Type 0

@@ -3,14 +3,13 @@ use mathlib.Core.Path.{_≡_, refl, ap}
 use mathlib.Core.Bool.{Bool, true, false}
 use mathlib.Core.List.{List}
 use Prim.Native.Nat.{ℕ}
-use lib.ListN.{length}
 use Rattle.lists.specs.Lists.{_and_}
 use Rattle.volume.specs.Directory.{contiguous, SameButCount}
 use Rattle.volume.proofs.EntryCounted.{contiguous-is}
 use Rattle.records.specs.Streams.{laidOut}
 use Rattle.ownership.specs.Blocks.{block, placed}
 use Rattle.ownership.specs.Owners.{logical, owned}
-use Rattle.files.specs.Files.{stored, stream, tail, records, recordsIn, extent, tailSound, recordsSound}
+use Rattle.files.specs.Files.{stored, stream, tail, records, extent, tailSound, recordsSound}
 
 module _ (e d : List ℕ) (S : SameButCount e d) (img : List ℕ) where
   -- a contiguous entry is the same throughout
@@ -52,10 +51,6 @@ module _ (e d : List ℕ) (S : SameButCount e d) (img : List ℕ) where
   pub records-alike : records img d ≡ records img e
   unfolding records
   records-alike = rw (S .length-same, stream-alike)
-
-  pub recordsIn-alike : recordsIn img d ≡ recordsIn img e
-  unfolding recordsIn
-  recordsIn-alike = ap length records-alike
 
   pub extent-alike : extent img d ≡ extent img e
   unfolding extent

@@ -20,14 +20,14 @@ use Rattle.volume.proofs.Slots.{length-entries}
 use Rattle.ownership.specs.Blocks.{placed, sound3}
 use Rattle.ownership.specs.Owners.{owned, allOwned, sound5}
 use Rattle.ownership.proofs.OwnedRuns.{owned-unused}
-use Rattle.files.specs.Files.{records, extent, tailSound, recordsSound, sound4, soundButCounts}
-use Rattle.files.proofs.Kept.EntryAlike.{owned-alike, placed-alike, content-alike, records-alike, extent-alike}
+use Rattle.files.specs.Files.{records, tailSound, recordsSound, sound4, soundButCounts}
+use Rattle.files.proofs.Kept.EntryAlike.{owned-alike, placed-alike, content-alike, records-alike}
 use Rattle.files.proofs.EntryAndSatWritten.{owned-not-dir}
 use Rattle.files.proofs.Kept.FileSame.{Same, same-file}
 use Rattle.files.proofs.Kept.FrameKept.{frame-system, frame-1}
 use Rattle.files.proofs.OwnersApart.{sat-not-dir, zero-not, last-not}
 use Rattle.files.proofs.OwnSectorsWritten.{slot-valid}
-use Rattle.files.proofs.Kept.RecordsSame.{records-same, extent-same}
+use Rattle.files.proofs.Kept.RecordsSame.{records-same}
 use Rattle.files.proofs.SoundFacts.{Facts, sound-but, placed-unused, content-unused}
 
 pub record Recounted (v v′ : List ℕ) : Type 0 where
@@ -54,8 +54,8 @@ module _ (v v′ : List ℕ) (F : Facts v) (R : Recounted v v′) where
   unfolding free freeSectors
   recounted-free = rw (recounted-sat, recounted-sectors)
 
-  as-many : length (entries v′) ≡ length (entries v)
-  as-many = length-entries v′ ∙ ap (λ (n : ℕ). 8 * n) recounted-dirs ∙ sym (length-entries v)
+  pub recounted-many : length (entries v′) ≡ length (entries v)
+  recounted-many = length-entries v′ ∙ ap (λ (n : ℕ). 8 * n) recounted-dirs ∙ sym (length-entries v)
 
   -- each file
   file-same : (k : ℕ) → k < 8 * dirs v → unused (entryAt v k) ≡ false → Same v v′ (entryAt v k)
@@ -90,9 +90,6 @@ module _ (v v′ : List ℕ) (F : Facts v) (R : Recounted v v′) where
     recounted-records c =
         records-alike (entryAt v k) (entryAt v′ k) (R .each k h) v′ ∙ records-same v v′ (entryAt v k) (file-same k h u) u c
 
-    pub recounted-extent : extent v′ (entryAt v′ k) ≡ extent v (entryAt v k)
-    recounted-extent = extent-alike (entryAt v k) (entryAt v′ k) (R .each k h) v′ ∙ extent-same v v′ (entryAt v k) (file-same k h u) u
-
     pub recounted-file : Same v v′ (entryAt v k)
     recounted-file = file-same k h u
 
@@ -103,26 +100,26 @@ module _ (v v′ : List ℕ) (F : Facts v) (R : Recounted v v′) where
   all-valid : all (λ e. unused e or valid e) (entries v′) ≡ true
   unfolding entryAt
   all-valid =
-      all-alike [] (λ e. unused e or valid e) (λ e. unused e or valid e) (entries v) (entries v′) as-many
+      all-alike [] (λ e. unused e or valid e) (λ e. unused e or valid e) (entries v) (entries v′) recounted-many
       (λ i h. R .each-valid i (at i h) ∙ sym (slot-valid v F i (at i h))) ∙ F .each-valid
 
   names : namesDiffer (entries v′) ≡ true
   unfolding entryAt
-  names = names-alike (entries v) (entries v′) as-many (λ i h. R .each i (at i h)) ∙ F .names
+  names = names-alike (entries v) (entries v′) recounted-many (λ i h. R .each i (at i h)) ∙ F .names
 
   point-3 : sound3 v′ ≡ true
   unfolding sound3 entryAt
-  point-3 = all-alike [] (placed v) (placed v′) (entries v) (entries v′) as-many (λ i h. placed-each i (at i h)) ∙ F .three
+  point-3 = all-alike [] (placed v) (placed v′) (entries v) (entries v′) recounted-many (λ i h. placed-each i (at i h)) ∙ F .three
 
   point-4 : sound4 v′ ≡ true
   unfolding sound4 entryAt
-  point-4 = all-alike [] (content v) (content v′) (entries v) (entries v′) as-many (λ i h. content-each i (at i h)) ∙ F .four
+  point-4 = all-alike [] (content v) (content v′) (entries v) (entries v′) recounted-many (λ i h. content-each i (at i h)) ∙ F .four
 
   pub recounted-owned : allOwned v′ ≡ allOwned v
   unfolding allOwned entryAt
   recounted-owned =
       rw (frame-system ws v v′ (R .keeps) (zero-not v F .0) (last-not v F .0))
-      (ap (λ (l : List ℕ). system v ++ l) (flat-alike [] (owned v) (owned v′) (entries v) (entries v′) as-many (λ i h. owned-each i (at i h))))
+      (ap (λ (l : List ℕ). system v ++ l) (flat-alike [] (owned v) (owned v′) (entries v) (entries v′) recounted-many (λ i h. owned-each i (at i h))))
 
   point-5 : sound5 v′ ≡ true
   unfolding sound5

@@ -2,15 +2,16 @@
 -- and every file on it is as it was.
 use mathlib.Core.Path.{_≡_, refl, ap, sym, _∙_}
 use mathlib.Core.Bool.{Bool, true, false}
-use mathlib.Core.List.{List, [], _∷_, map}
-use Prim.Native.Nat.{ℕ, zero, suc, _+_, _*_, _≤_, _<_}
+use mathlib.Core.List.{List, []}
+use Prim.Native.Nat.{ℕ, _+_, _*_, _≤_, _<_}
 use native.Mathlib.Omega.{arith}
-use lib.ListN.{length, getD}
+use lib.ListN.{length}
 use borrow.Author.Tests.{eq-eqb}
 use Rattle.lists.specs.Lists.{_or_}
 use Rattle.lists.proofs.Alike.{all-alike}
 use Rattle.lists.proofs.AreBytes.{Bytes}
-use Rattle.lists.proofs.ByteLists.{bytes-put, bytes-flat}
+use Rattle.lists.proofs.ByteLists.{bytes-part, bytes-put, bytes-flat}
+use Rattle.lists.proofs.Lists.{getD-map}
 use Rattle.lists.proofs.Tests.{or-left, or-right, or-first, or-second, or-cases}
 use Rattle.lists.proofs.Walks.{all-yes}
 use Rattle.volume.specs.Directory.{entries, entryAt, unused, contiguous, valid, recordCount, withCount, SameButCount}
@@ -20,40 +21,31 @@ use Rattle.volume.proofs.EntriesMade.{made-keeps, made-entries}
 use Rattle.volume.proofs.EntryCounted.{counted-other, counted-sequential, length-countedAs, bytes-countedAs, count-withCount, alike-withCount}
 use Rattle.volume.proofs.EntryCounted.{alike-entry, valid-first, valid-withCount}
 use Rattle.volume.proofs.Located.{located-sound}
-use Rattle.volume.proofs.Slots.{length-entries, length-entry, entry-part}
-use Rattle.lists.proofs.ByteLists.{bytes-part}
+use Rattle.volume.proofs.Slots.{length-entries, entry-part}
 use Rattle.files.specs.Changes.{countedIn, broughtUp}
 use Rattle.files.specs.Files.{recordsIn, countIs, countsAre, sound}
 use Rattle.files.proofs.Bounds.{records-short}
 use Rattle.files.proofs.map.OpenBlock.{opens-at}
 use Rattle.files.proofs.OwnersApart.{last-not}
-use Rattle.files.proofs.OwnSectorsWritten.{slot-valid}
-use Rattle.files.proofs.Kept.Recounted.{Recounted, recounted-but, recounted-records, recounted-dirs}
+use Rattle.files.proofs.OwnSectorsWritten.{slot-length, slot-valid}
+use Rattle.files.proofs.Kept.Recounted.{Recounted, recounted-but, recounted-records, recounted-many}
 use Rattle.files.proofs.SoundFacts.{Facts, CountsTrue, sound-is}
 
-getD-map : (f : List ℕ → List ℕ) (xs : List (List ℕ)) (k : ℕ) → k < length xs → getD (map f xs) k [] ≡ f (getD xs k [])
-getD-map f [] k l = absurd (omega arith)
-getD-map f (x ∷ xs) zero l = refl
-getD-map f (x ∷ xs) (suc k) l = getD-map f xs k (omega arith)
+pub length-countedIn : (v e : List ℕ) → length e ≡ 32 → length (countedIn v e) ≡ 32
+unfolding countedIn
+length-countedIn v e h = length-countedAs (recordsIn v e) e h
 
 module _ (v : List ℕ) (F : Facts v) where
   located : Located v (layoutOf v)
   located = located-sound v (F .one)
 
-  inside : 256 * (dirAt v + dirs v) ≤ length v
-  inside = omega (arith, F .dir-in, F .long)
-
-  long : (e : List ℕ) → length e ≡ 32 → length (countedIn v e) ≡ 32
-  unfolding countedIn
-  long e h = length-countedAs (recordsIn v e) e h
-
-  length-slot : (k : ℕ) → k < 8 * dirs v → length (entryAt v k) ≡ 32
-  unfolding layoutOf
-  length-slot k h = length-entry v (layoutOf v) located k h
+  pub dir-inside : 256 * (dirAt v + dirs v) ≤ length v
+  dir-inside = omega (arith, F .dir-in, F .long)
 
   pub up-entry : (k : ℕ) → k < 8 * dirs v → entryAt (broughtUp v) k ≡ countedIn v (entryAt v k)
   unfolding entryAt broughtUp
-  up-entry k h = rw (made-entries (countedIn v) v inside long (last-not v F .0)) (getD-map (countedIn v) (entries v) k (omega (arith, length-entries v)))
+  up-entry k h =
+      rw (made-entries (countedIn v) v dir-inside (length-countedIn v) (last-not v F .0)) (getD-map (countedIn v) [] [] (entries v) k (omega (arith, length-entries v)))
 
   -- an entry that is given a count, and one that is not
   pub up-other : (e : List ℕ) → unused e or contiguous e ≡ true → countedIn v e ≡ e
@@ -75,13 +67,13 @@ module _ (v : List ℕ) (F : Facts v) where
     same-at true q = alike-entry e (countedIn v e) (up-other e q)
     same-at false q =
         let u : unused e ≡ false = or-left _ _ q in
-        rw (up-sequential e u (or-right _ _ q)) (alike-withCount (recordsIn v e) e (length-slot k h) (valid-first e (valid-at u)) (or-right _ _ q))
+        rw (up-sequential e u (or-right _ _ q)) (alike-withCount (recordsIn v e) e (slot-length v F k h) (valid-first e (valid-at u)) (or-right _ _ q))
 
     good-at : (b : Bool) → unused e or contiguous e ≡ b → unused (countedIn v e) or valid (countedIn v e) ≡ true
     good-at true q = rw (up-other e q) (slot-valid v F k h)
     good-at false q =
         let u : unused e ≡ false = or-left _ _ q in
-        rw (up-sequential e u (or-right _ _ q)) (or-second _ _ (valid-withCount (recordsIn v e) e (length-slot k h) (or-right _ _ q) (valid-at u)))
+        rw (up-sequential e u (or-right _ _ q)) (or-second _ _ (valid-withCount (recordsIn v e) e (slot-length v F k h) (or-right _ _ q) (valid-at u)))
 
     -- no count needs more than four bytes
     few-at : unused e ≡ false → contiguous e ≡ false → recordsIn v e < 4294967296
@@ -98,7 +90,7 @@ module _ (v : List ℕ) (F : Facts v) where
 
   pub up-recounted : Recounted v (broughtUp v)
   up-recounted = record {
-    keeps = unfold broughtUp in made-keeps (countedIn v) v inside long;
+    keeps = unfold broughtUp in made-keeps (countedIn v) v dir-inside (length-countedIn v);
     each = λ k h. rw (up-entry k h) (same-at k h (unused (entryAt v k) or contiguous (entryAt v k)) refl);
     each-valid = λ k h. rw (up-entry k h) (good-at k h (unused (entryAt v k) or contiguous (entryAt v k)) refl);
   }
@@ -116,15 +108,13 @@ module _ (v : List ℕ) (F : Facts v) where
       let u : unused (entryAt v k) ≡ false = or-left _ _ q in
       let c : contiguous (entryAt v k) ≡ false = or-right _ _ q in
       let n : recordCount (entryAt (broughtUp v) k) ≡ recordsIn v (entryAt v k) =
-      ap (λ (x : List ℕ). recordCount x) (up-entry k h ∙ up-sequential (entryAt v k) u c) ∙ count-withCount (recordsIn v (entryAt v k)) (entryAt v k) (length-slot k h) in
+      ap (λ (x : List ℕ). recordCount x) (up-entry k h ∙ up-sequential (entryAt v k) u c) ∙ count-withCount (recordsIn v (entryAt v k)) (entryAt v k) (slot-length v F k h) in
       or-second _ _ (eq-eqb _ _ (n ∙ sym (as-many k h u c)))
 
   up-counts : CountsTrue (broughtUp v)
   unfolding countsAre entryAt
   up-counts =
-      let many : length (entries (broughtUp v)) ≡ length (entries v) =
-      length-entries (broughtUp v) ∙ ap (λ (n : ℕ). 8 * n) (recounted-dirs v (broughtUp v) F up-recounted) ∙ sym (length-entries v) in
-      all-alike [] (λ x. true) (countIs (recordsIn (broughtUp v))) (entries v) (entries (broughtUp v)) many
+      all-alike [] (λ x. true) (countIs (recordsIn (broughtUp v))) (entries v) (entries (broughtUp v)) (recounted-many v (broughtUp v) F up-recounted)
       (λ i l. count-at i (omega (arith, length-entries v)) (unused (entryAt v i) or contiguous (entryAt v i)) refl)
       ∙ all-yes (λ x. true) (entries v) (λ x. refl)
 

@@ -11,20 +11,20 @@ use Rattle.lists.specs.Lists.{if_then_else_, _or_, distinct}
 use Rattle.lists.specs.Parts.{part, put}
 use Rattle.lists.proofs.Puts.{length-put}
 use Rattle.lists.proofs.Tests.{or-left, or-right}
-use Rattle.volume.specs.Directory.{entryAt, unused, contiguous, start, countedAs}
+use Rattle.volume.specs.Directory.{entryAt, unused, contiguous, countedAs}
 use Rattle.volume.specs.Volume.{dirAt, dirs}
 use Rattle.volume.specs.Code.Located.{Located, entryByte, EntryIn}
 use Rattle.volume.specs.declared.locate.Layout.{Layout}
 use Rattle.volume.proofs.EntriesMade.{madeTo, made-length, made-later, made-next, made-none, made-all}
-use Rattle.volume.proofs.EntryCounted.{counted-other, length-countedAs}
+use Rattle.volume.proofs.EntryCounted.{counted-other}
 use Rattle.records.specs.declared.record.Counted.the-variants.{Whole, Broken}
 use Rattle.ownership.specs.Blocks.{sound3}
 use Rattle.ownership.specs.Owners.{allOwned}
 use Rattle.files.specs.Changes.{countedIn, broughtUp}
-use Rattle.files.specs.Code.Opens.{Opens}
 use Rattle.files.specs.Code.Verdict.{fileBefore, recordsBefore, countBefore}
 use Rattle.files.specs.Files.{recordsIn, soundBefore}
 use Rattle.files.proofs.Bounds.{records-short}
+use Rattle.files.proofs.counting.BroughtUp.{length-countedIn}
 use Rattle.files.proofs.map.OpenBlock.{opens-at}
 
 -- what is found of one slot
@@ -62,27 +62,20 @@ counted-before img e = go (unused e or contiguous e) refl
     go false h = refl
 
 module _ (v : List ℕ) (p : Layout) (l : Located v p) where
-  abbrev made : ℕ → List ℕ
-  made k = madeTo (countedIn v) v k
-
   inside : 256 * (dirAt v + dirs v) ≤ length v
   inside = omega (arith, l .is-dir, l .is-dirs, l .dir-in, l .long)
 
-  long : (e : List ℕ) → length e ≡ 32 → length (countedIn v e) ≡ 32
-  unfolding countedIn
-  long e h = length-countedAs (recordsIn v e) e h
-
   pub up-first : madeTo (countedIn v) v 0 ≡ v
-  up-first = made-none (countedIn v) v inside long
+  up-first = made-none (countedIn v) v inside (length-countedIn v)
 
   pub up-last : madeTo (countedIn v) v (8 * p .dirs) ≡ broughtUp v
   unfolding broughtUp
-  up-last = ap (λ (n : ℕ). madeTo (countedIn v) v (8 * n)) (l .is-dirs) ∙ made-all (countedIn v) v inside long
+  up-last = ap (λ (n : ℕ). madeTo (countedIn v) v (8 * n)) (l .is-dirs) ∙ made-all (countedIn v) v inside (length-countedIn v)
 
   pub up-long : (k : ℕ) → k ≤ 8 * p .dirs → length (madeTo (countedIn v) v k) ≡ length v
   unfolding madeTo
   up-long k h =
-      length-put (256 * dirAt v) _ v (omega (arith, l .is-dirs, made-length (countedIn v) v inside long k (omega (arith, l .is-dirs)), inside))
+      length-put (256 * dirAt v) _ v (omega (arith, l .is-dirs, made-length (countedIn v) v inside (length-countedIn v) k (omega (arith, l .is-dirs)), inside))
 
   module _ (k : ℕ) (h : k < 8 * p .dirs) where
     slot : k < 8 * dirs v
@@ -99,16 +92,13 @@ module _ (v : List ℕ) (p : Layout) (l : Located v p) where
         → z ≡ put (entryByte p k) (countedAs n (part (entryByte p k) 32 x)) x → z ≡ madeTo (countedIn v) v (k + 1)
     up-next n x z en ex ez =
         ez
-        ∙ rw (ex, en, l .is-dir, made-later (countedIn v) v inside long k slot, counted-before v (entryAt v k)) (made-next (countedIn v) v inside long k slot)
+        ∙ rw (ex, en, l .is-dir, made-later (countedIn v) v inside (length-countedIn v) k slot, counted-before v (entryAt v k))
+        (made-next (countedIn v) v inside (length-countedIn v) k slot)
 
 -- a count takes no more than four bytes
-few : {img : List ℕ} (e : List ℕ) → unused e ≡ false → contiguous e ≡ false → Opens img (start e) → recordsIn img e ≤ 524288
-unfolding recordsIn
-few {img} e u c o = records-short img e u c o
-
 pub before-few : (img : List ℕ) (p : Layout) → Located img p → sound3 img ≡ true → distinct (allOwned img) ≡ true → (k : ℕ) → k < 8 * p .dirs
     → recordsBefore img (entryAt img k) < 4294967296
-unfolding recordsBefore
+unfolding recordsBefore recordsIn
 before-few img p l s3 once k h = go (unused (entryAt img k) or contiguous (entryAt img k)) refl
   where
     go : (b : Bool) → unused (entryAt img k) or contiguous (entryAt img k) ≡ b → (if b then 0 else recordsIn img (entryAt img k)) < 4294967296
@@ -116,7 +106,7 @@ before-few img p l s3 once k h = go (unused (entryAt img k) or contiguous (entry
     go false q =
         let u : unused (entryAt img k) ≡ false = or-left _ _ q in
         let c : contiguous (entryAt img k) ≡ false = or-right _ _ q in
-        omega (arith, few (entryAt img k) u c (opens-at img p l s3 once k h u c))
+        omega (arith, records-short img (entryAt img k) u c (opens-at img p l s3 once k h u c))
 
 -- what the whole comes to
 module _ (img : List ℕ) where

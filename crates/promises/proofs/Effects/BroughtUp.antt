@@ -20,6 +20,7 @@ use Rattle.volume.proofs.Slots.{length-entries}
 use Rattle.files.specs.Changes.{broughtUp}
 use Rattle.files.specs.Files.{records, recordsIn, noCount, countIs, countsAre, sound, soundBefore}
 use Rattle.files.proofs.OwnersApart.{zero-not, last-not}
+use Rattle.files.proofs.Kept.EntryAlike.{block-alike, logical-alike, stored-alike}
 use Rattle.files.proofs.Kept.Recounted.{Recounted, recounted-dirs, recounted-free, recounted-records, recounted-file}
 use Rattle.files.proofs.Kept.RecordsSame.{records-same}
 use Rattle.files.proofs.slot.SlotInUse.{count-right}
@@ -152,11 +153,11 @@ module _ (s : State) (b : soundBefore (s .image) ≡ true) where
     entries-same = each-entry;
     files-same = λ k f.
         let same = recounted-file v v′ F R k (f .slot) (f .used) in
+        let alike : SameButCount (entryAt v k) (entryAt v′ k) = R .each k (f .slot) in
         record {
-          same-but-count = R .each k (f .slot);
-          block-same = same .block-same (f .used);
-          places-same = same .logical-same;
-          bytes-same = same .stored-same;
+          block-same = λ q. block-alike (entryAt v k) (entryAt v′ k) alike v′ ∙ same .block-same (f .used) q;
+          places-same = logical-alike (entryAt v k) (entryAt v′ k) alike v′ ∙ same .logical-same;
+          bytes-same = stored-alike (entryAt v k) (entryAt v′ k) alike v′ ∙ same .stored-same;
           records-same = recounted-records v v′ F R k (f .slot) (f .used);
         };
     as-many-free = up-free;
