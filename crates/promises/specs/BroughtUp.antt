@@ -22,19 +22,19 @@ use Rattle.promises.specs.Runs.{Visit, through}
 use Rattle.promises.specs.Sectors.{Accepts, File, VisitBytes}
 
 -- "A volume is sound only if each stored count equals the count of the stream": so far goes a sequential file
-pub record Counted (img : List ℕ) (k : ℕ) : Type 0 where
+pub record CountRight (img : List ℕ) (k : ℕ) : Type 0 where
   pub of-records : recordCount (entryAt img k) ≡ length (records img (entryAt img k))
   pub is-extent : extent img (entryAt img k) ≡ recordCount (entryAt img k)
 
 abbrev pub StoredCounts : Type 0
-StoredCounts = (img : List ℕ) → sound img ≡ true → (k : ℕ) → File img k → contiguous (entryAt img k) ≡ false → Counted img k
+StoredCounts = (img : List ℕ) → sound img ≡ true → (k : ℕ) → File img k → contiguous (entryAt img k) ≡ false → CountRight img k
 
 -- "Every operation keeps it true": from a formatted volume on, whatever calls come with whatever desks
 abbrev pub StoredCountsStay : Type 0
 StoredCountsStay =
     (s : State) (id : List ℕ) (n : ℕ) → Accepts (Format id n) s → (vs : List Visit) → VisitBytes vs
     → (k : ℕ) → File (through vs (step (Format id n) s .image)) k
-    → contiguous (entryAt (through vs (step (Format id n) s .image)) k) ≡ false → Counted (through vs (step (Format id n) s .image)) k
+    → contiguous (entryAt (through vs (step (Format id n) s .image)) k) ≡ false → CountRight (through vs (step (Format id n) s .image)) k
 
 -- "accepts exactly the volumes sound by the old rule .. all others $6F". (`RefusalKeeps` has what a refusal leaves)
 pub record Exactly (s : State) : Type 0 where
@@ -52,7 +52,7 @@ NoCountByte img j =
 
 -- "bring_up's result is sound, holds the same records and files, and differs in those bytes alone"; "leaves the desk as it is", and a desk
 -- that fitted goes on fitting
-pub record BringsUp (s : State) (o : Outcome) : Type 0 where
+pub record BroughtUp (s : State) (o : Outcome) : Type 0 where
   pub answered : o .answer ≡ Done (Moved 0)
   pub is-sound : sound (o .image) ≡ true
   pub as-long : length (o .image) ≡ length (s .image)
@@ -65,7 +65,7 @@ pub record BringsUp (s : State) (o : Outcome) : Type 0 where
   pub still-fits : fits (s .image) (s .desk .luns) ≡ true → fits (o .image) (o .desk .luns) ≡ true
 
 abbrev pub AcceptedBringUp : Type 0
-AcceptedBringUp = (s : State) → Accepts BringUp s → BringsUp s (step BringUp s)
+AcceptedBringUp = (s : State) → Accepts BringUp s → BroughtUp s (step BringUp s)
 
 -- "A volume sound by the new rule that has records is $6F to it; one with no records is sound by both and comes back as it was"
 pub record SoundAlready : Type 0 where

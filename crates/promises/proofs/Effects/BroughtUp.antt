@@ -38,7 +38,7 @@ use Rattle.desk.specs.Answers.{Outcome, accepts}
 use Rattle.desk.specs.Calls.{BringUp, RecordCounts, rules, done, quietly, step}
 use Rattle.desk.specs.declared.Answer.the-variants.{Refused}
 use Rattle.promises.specs.Answers.{First}
-use Rattle.promises.specs.BroughtUp.{BringUpExactly, BringsUp, AcceptedBringUp, SoundAlready}
+use Rattle.promises.specs.BroughtUp.{BringUpExactly, BroughtUp, AcceptedBringUp, SoundAlready}
 use Rattle.promises.specs.Contents.{SameFrame}
 use Rattle.promises.specs.Sectors.{File}
 use Rattle.promises.specs.Touches.{changes}
@@ -143,7 +143,7 @@ module _ (s : State) (b : soundBefore (s .image) ≡ true) where
     | no g ↦ alike-entry (entryAt v k) (entryAt v′ k) (past v′ k (omega (arith, g, recounted-dirs v v′ F R)) ∙ sym (past v k (omega (arith, g))))
   ]
 
-  raised : BringsUp s (carried BringUp s)
+  raised : BroughtUp s (carried BringUp s)
   unfolding done quietly
   raised = record {
     answered = refl;

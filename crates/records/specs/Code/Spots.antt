@@ -1,6 +1,5 @@
 -- What the walks over a stream answer: how many records it is, where a record's data lies.
 use mathlib.Core.List.{List, []}
-use mathlib.Core.Bool.{Bool, true, false}
 use Prim.Native.Nat.{ℕ, _+_}
 use lib.ListN.{length, getD}
 use lib.Dec.{ltb}
@@ -25,13 +24,3 @@ countedOf l s = if wholeRecords l s then Whole (length (recordsOf l s)) else Bro
 -- the data of record i: where in the stream, and how long
 unfoldable pub spotOf : ℕ → List ℕ → ℕ → Spot
 spotOf l s i = if ltb i (length (recordsOf l s)) then At (placeOf l s i + headOf l) (length (getD (recordsOf l s) i [])) else Past
-
--- are they whole?
-abbrev pub wholeOf : Counted → Bool
-wholeOf (Whole n) = true
-wholeOf Broken = false
-
--- how many?
-abbrev pub countOf : Counted → ℕ
-countOf (Whole n) = n
-countOf Broken = 0
