@@ -13,7 +13,7 @@ enum { NOT_AT_ALL = 0, TO_READ = 1, TO_READ_AND_WRITE = 3, PRIVATE_AND_ANONYMOUS
 enum { FENCE = 65536, ROOM = 9 * FENCE };
 
 struct area area[AREAS];
-static const char *const area_name[AREAS] = {"block", "image", "desk", "task area", "shared segment", "name"};
+static const char *const area_name[AREAS] = {"block", "image", "desk", "task area", "shared segment", "name", "report"};
 int after_fence;
 unsigned long checks, differences;
 static const char *rule_text = "";
@@ -263,6 +263,22 @@ void erase(uint32_t status, uint32_t caller)
     compare("delete", status, got);
 }
 
+void compact(uint32_t status, unsigned ending, unsigned moved, uint32_t quota)
+{
+    uint8_t *report = area[REPORT].want;
+    uint32_t got;
+    if (status == 0x00 && area[REPORT].len == TWYNARVEL_REPORT_BYTES) {
+        report[0] = (uint8_t)ending;
+        report[1] = 0;
+        report[2] = (uint8_t)(moved / 256);
+        report[3] = (uint8_t)moved;
+    }
+    seal(DESK, TO_READ);
+    got = twynarvel_compact(LENT(IMAGE), LENT(DESK), quota, LENT(REPORT));
+    seal(DESK, TO_READ_AND_WRITE);
+    compare("compact", status, got);
+}
+
 static void long_word(size_t at, uint32_t value)
 {
     int k;
@@ -331,6 +347,7 @@ void house(size_t len, size_t shared)
     put(DESK, 48, "01 00 0006 01 00 0000 00000000");
     lend(TASK, len, 0xEE);
     lend(SHARED, shared, 0xDD);
+    lend(REPORT, TWYNARVEL_REPORT_BYTES, 0xBB);
     name(FILE_NEW);
     rewind_of(1);
 }

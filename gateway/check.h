@@ -13,7 +13,7 @@ int memcmp(const void *a, const void *b, size_t n);
  * The areas that calls are lent. Each has exactly the length that it is given, and a page that cannot be touched right behind it (first
  * round) or right before it (second round). So one byte too far ends the test. NAME is the volume ID or the descriptor.
  */
-enum { BLOCK, IMAGE, DESK, TASK, SHARED, NAME, AREAS };
+enum { BLOCK, IMAGE, DESK, TASK, SHARED, NAME, REPORT, AREAS };
 struct area {
     uint8_t *at;   /* what is lent */
     size_t len;
@@ -46,7 +46,7 @@ void of(unsigned a, unsigned b);
 
 /*
  * Each call. First comes what it has to answer. Then all areas are compared, byte by byte, with what they have to hold: what they held
- * before, but for what `want` said, and for the block's status and length. A const area cannot be written while the call runs.
+ * before, but for what `want` said, and for the block's status and length, and the report. A const area cannot be written while the call runs.
  */
 void iocb(uint32_t status, uint32_t length, uint32_t caller);
 void format(uint32_t status, uint32_t dirs);
@@ -56,6 +56,7 @@ void allocate(uint32_t status, uint32_t caller, uint32_t kind, uint32_t size, ui
 void assign(uint32_t status, uint32_t caller, uint32_t lun, uint32_t mode, uint32_t at_end, uint8_t offered);
 void release(uint32_t status, uint32_t caller, uint32_t lun);
 void erase(uint32_t status, uint32_t caller);
+void compact(uint32_t status, unsigned ending, unsigned moved, uint32_t quota); /* an accepted one writes a report of four bytes */
 void compare(const char *call, uint32_t wanted, uint32_t got); /* what each of them ends with */
 
 /* A block of 28 bytes. The bytes that are not looked at, and those that are written, hold something on purpose. */
@@ -76,7 +77,7 @@ void name(const char *hex);
  *   slot 1  Y, variable, access block 6, sector 7: records ABC, A, FF 82, one of 0 bytes, 41 80 42
  *   slot 2  Z, fixed of 4 bytes, access block 8, sector 9: records WXYZ and "1  2"
  *   LUN 0 Y of user 5, PRPW, at record 1; LUN 1 X, LUN 2 Z of user 5, PRPW, Fresh; LUN 3 Y of user 5, PW; LUN 4 Y of user 6, PR, Fresh
- * Five sectors are free, 10 to 14. The task's area has `len` bytes of EE, the shared segment `shared` bytes of DD.
+ * Five sectors are free, 10 to 14. The task's area has `len` bytes of EE, the shared segment `shared` bytes of DD, the report four of BB.
  */
 void house(size_t len, size_t shared);
 
@@ -118,6 +119,17 @@ void old_bytes(void);
 void old_lengths(void);
 void long_counts(void);
 void counted_appends(void);
+void closed_house(void);
+void small_volume_closed(void);
+void quotas(void);
+void reports(void);
+void segments_joined(void);
+void segments_at_most(void);
+void closed_lengths(void);
+void closed_bytes(void);
+void closed_at_random(void);
+void closed_large(void);
+void order_of_compact(void);
 void order_of_format(void);
 void order_of_allocate(void);
 void order_of_assign(void);

@@ -48,6 +48,8 @@ void desk_lengths(void)
         assign(status, 65534, 0, 0, 0, 0);
         release(status, 5, 0);
         erase(status, 65534);
+        compact(len == 192 ? 0x00 : 0x6F, TWYNARVEL_SETTLED, 0, 1);
+        compact(len == 192 ? 0x60 : 0x6F, 0, 0, 2049);
     }
     rule("format: desk bytes of another length");
     for (len = 0; len <= 200; len++) {
@@ -132,6 +134,8 @@ static void bad_form(unsigned which, size_t lun, const char *twelve)
     name(FILE_X);
     assign(0x6F, 5, 9, 0, 0, 0);
     release(0x6F, 5, 1);
+    compact(0x6F, 0, 0, 0);
+    compact(0x6F, 0, 0, 2049);
     put(DESK, 12, "00 00 0000 00 00 0000 00000000");
     erase(0x6F, 5);
 }
@@ -187,6 +191,9 @@ void null_pointers(void)
     allocate(0x64, 5, 1, 0, 0, 0);
     assign(0x64, 5, 9, 0, 0, 0);
     erase(0x64, 5);
+    lend_null(REPORT); /* of another length than four: not written */
+    compact(0x00, TWYNARVEL_SETTLED, 0, 1);
+    compact(0x60, 0, 0, 2049);
     lend_null(IMAGE); /* no bytes are no volume */
     check(0);
     bring_up(0x6F);
@@ -197,6 +204,7 @@ void null_pointers(void)
     assign(0x6F, 5, 9, 0, 0, 0);
     release(0x6F, 5, 0);
     erase(0x6F, 5);
+    compact(0x6F, 0, 0, 0);
     lend_null(DESK);
     rewind_of(1);
     iocb(0x6F, 0, 5);
@@ -205,6 +213,7 @@ void null_pointers(void)
     assign(0x6F, 5, 9, 0, 0, 0);
     release(0x6F, 5, 0);
     erase(0x6F, 5);
+    compact(0x6F, 0, 0, 0);
     lend_null(BLOCK);
     iocb(0x84, 0, 5);
     /* one area null, the other used */

@@ -78,6 +78,8 @@ static void no_fit(unsigned which, const char *twelve)
     assign(0x6F, 5, 9, 0, 0, 0);
     release(0x6F, 5, 15);
     erase(0x6F, 65534);
+    compact(0x6F, 0, 0, 0);
+    compact(0x6F, 0, 0, 2049);
 }
 
 void fitting(void)

@@ -36,6 +36,8 @@ static void names(void)
         {TWYNARVEL_BAD_REQUEST, 0x82}, {TWYNARVEL_BAD_LENGTH, 0x84}, {TWYNARVEL_PAST_END, 0xC2}, {TWYNARVEL_SOUND, 65536},
         {TWYNARVEL_SECTOR_BYTES, 256}, {TWYNARVEL_ID_BYTES, 4}, {TWYNARVEL_DESCRIPTOR_BYTES, 20}, {TWYNARVEL_RECORD_BYTES, 1024},
         {TWYNARVEL_TRANSFER_BYTES, 4096}, {TWYNARVEL_BLOCK_BYTES, 28}, {TWYNARVEL_DESK_BYTES, 192}, {TWYNARVEL_LUN_BYTES, 12},
+        {TWYNARVEL_REPORT_BYTES, 4}, {TWYNARVEL_REPORT_ENDING, 0}, {TWYNARVEL_REPORT_MOVED, 2}, {TWYNARVEL_SETTLED, 1},
+        {TWYNARVEL_QUOTA_USED, 2}, {TWYNARVEL_SEGMENT_NEEDED, 3}, {TWYNARVEL_MOST_QUOTA, 2048},
         {TWYNARVEL_CONTIGUOUS, 0}, {TWYNARVEL_SEQUENTIAL, 1}, {TWYNARVEL_PR, 0}, {TWYNARVEL_ER, 1}, {TWYNARVEL_PW, 2}, {TWYNARVEL_EW, 3},
         {TWYNARVEL_PRPW, 4}, {TWYNARVEL_PREW, 5}, {TWYNARVEL_ERPW, 6}, {TWYNARVEL_EREW, 7}, {TWYNARVEL_AT_START, 0}, {TWYNARVEL_AT_END, 1},
         {TWYNARVEL_BLOCK_CODE, 0}, {TWYNARVEL_BLOCK_FUNCTION, 1}, {TWYNARVEL_BLOCK_OPTIONS, 2}, {TWYNARVEL_BLOCK_STATUS, 4},
@@ -59,9 +61,10 @@ int main(void)
     static void (*const sections[])(void) = {
         names, example, block_lengths, desk_lengths, desk_forms, null_pointers, request_codes, options, selectors, parts, far_parts, sent_parts,
         story, texts, sectors, fixed, places, formats, soundness, modes, fitting, entry_codes, new_codes, offered_codes, kept_codes,
-        reads_by_code, private_file, fresh_volumes, old_volume, counts_left, old_bytes, old_lengths, long_counts, counted_appends,
-        order_of_format, order_of_allocate, order_of_assign, order_of_close, order_of_delete, order_of_rewind, order_of_read, order_of_write,
-        order_of_update, order_of_segments};
+        reads_by_code, private_file, fresh_volumes, old_volume, counts_left, old_bytes, old_lengths, long_counts, counted_appends, closed_house,
+        small_volume_closed, quotas, reports, segments_joined, segments_at_most, closed_lengths, closed_bytes, closed_at_random, closed_large,
+        order_of_compact, order_of_format, order_of_allocate, order_of_assign, order_of_close, order_of_delete, order_of_rewind, order_of_read,
+        order_of_write, order_of_update, order_of_segments};
     size_t k;
     prepare();
     for (after_fence = 0; after_fence < 2; after_fence++)

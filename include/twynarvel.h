@@ -18,8 +18,8 @@
  * - The stack has room: the library takes no memory of its own from anywhere else.
  * Beyond that, every length, every byte and every number will do. A call answers a status number to whatever it is given.
  *
- * A refusal leaves the image, the desk bytes and the two areas of a request as they were. Where several reasons hold, the first in the order
- * that stands with the function is answered.
+ * A refusal leaves the image, the desk bytes, the two areas of a request and the report of a compaction as they were. Where several reasons
+ * hold, the first in the order that stands with the function is answered.
  */
 #ifndef TWYNARVEL_H
 #define TWYNARVEL_H
@@ -39,7 +39,7 @@ extern "C" {
 #define TWYNARVEL_NO_RIGHT 0x0B        /* the caller has no right to the file, or the modes clash */
 #define TWYNARVEL_IN_USE 0x0D          /* a LUN holds the file that was to be deleted */
 #define TWYNARVEL_NO_FILE 0x17         /* no such file */
-#define TWYNARVEL_OUT_OF_RANGE 0x60    /* a number of format or allocate out of range, a code for a file of user 0, or a bad volume ID */
+#define TWYNARVEL_OUT_OF_RANGE 0x60    /* a number of format, allocate or compact out of range, a code for a file of user 0, a bad volume ID */
 #define TWYNARVEL_OTHER_LENGTH 0x61    /* update by another length than the record's */
 #define TWYNARVEL_EXISTS 0x62          /* write of a record that is there */
 #define TWYNARVEL_NO_ROOM 0x63         /* too few free sectors, or no run of them */
@@ -64,6 +64,7 @@ extern "C" {
 #define TWYNARVEL_BLOCK_BYTES 28
 #define TWYNARVEL_DESK_BYTES 192
 #define TWYNARVEL_LUN_BYTES 12
+#define TWYNARVEL_REPORT_BYTES 4       /* the report of a compaction */
 
 /* File types. */
 #define TWYNARVEL_CONTIGUOUS 0
@@ -129,6 +130,19 @@ extern "C" {
 #define TWYNARVEL_BINARY 0x0001
 #define TWYNARVEL_WAIT 0x0004
 #define TWYNARVEL_KEY_WITH_RECORD 0x0100
+
+/*
+ * The report of a compaction: four bytes. Byte 0 says why it ended: no free sector is lower than a data sector of a sequential file, or there
+ * is no such data sector; as many sectors were moved as were allowed; or the next one's file would need a 63rd segment.
+ */
+#define TWYNARVEL_REPORT_ENDING 0      /* 1 byte: why it ended; byte 1 is zero */
+#define TWYNARVEL_REPORT_MOVED 2       /* 2 bytes: the sectors that were moved, the higher byte first */
+#define TWYNARVEL_SETTLED 1
+#define TWYNARVEL_QUOTA_USED 2
+#define TWYNARVEL_SEGMENT_NEEDED 3
+
+/* The highest quota of a compaction. */
+#define TWYNARVEL_MOST_QUOTA 2048
 
 /*
  * The desk bytes: twelve for each LUN, from LUN 0 on. The caller keeps them from call to call and has no need to look into them.
@@ -295,6 +309,27 @@ uint32_t twynarvel_close(const uint8_t *image, size_t image_len, uint8_t *desk, 
  */
 uint32_t twynarvel_delete(uint8_t *image, size_t image_len, const uint8_t *desk, size_t desk_len, uint32_t caller, const uint8_t *desc,
                           size_t desc_len);
+
+/*
+ * Closes up the volume, a little at a time. One step takes the highest-numbered data sector of any sequential file and moves its bytes to the
+ * lowest free sector, if that one is lower. The file's access block then has the fewest segments that give its sectors in the same order; the
+ * old sector is free, and its bytes stay. Contiguous files and access blocks stay where they are. Every read returns what it returned before,
+ * and the desk bytes that were kept with the volume go on with it.
+ *
+ * image    the volume. Written if the call is accepted: by each step the new sector, the access block and two bits of the SAT.
+ * desk     the desk bytes. They are judged, and not written.
+ * quota    how many steps may be made at most, 0 to 2,048. No volume needs more.
+ * report   four bytes, which get why it ended and how many sectors were moved, if the call is accepted: 1 settled, 2 quota used, 3 a 63rd
+ *          segment needed, and that step is not made. Where two of these hold, the lower number is given, whatever the quota; so quota 0
+ *          tells whether the volume is settled. A report of another length is not written, and the call is carried out all the same.
+ *
+ * Returns the status number. Refusals, the first that applies:
+ *   0x6F  the desk bytes are bad
+ *   0x6F  the volume is not sound, or the desk does not fit it
+ *   0x60  the quota is above 2,048
+ */
+uint32_t twynarvel_compact(uint8_t *image, size_t image_len, const uint8_t *desk, size_t desk_len, uint32_t quota, uint8_t *report,
+                           size_t report_len);
 
 #ifdef __cplusplus
 }

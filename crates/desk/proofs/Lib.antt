@@ -4,6 +4,7 @@ pub mod Bounds
 pub mod Openings
 pub mod Named
 pub mod Told
+pub mod ClosedUp
 pub mod DeskFitting
 pub mod Held
 pub mod Vectors

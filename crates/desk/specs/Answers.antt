@@ -4,7 +4,7 @@ use mathlib.Core.List.{List}
 use Prim.Native.Nat.{ℕ}
 use Rattle.work.specs.Refusals.{code, Rule, ruled}
 use Rattle.desk.specs.declared.Report.{Report}
-use Rattle.desk.specs.declared.Report.the-variants.{Moved, Checked}
+use Rattle.desk.specs.declared.Report.the-variants.{Moved, Checked, Compacted}
 use Rattle.desk.specs.declared.Answer.{Answer}
 use Rattle.desk.specs.declared.Answer.the-variants.{Done, Refused}
 use Rattle.desk.specs.declared.Desk.{Desk}
@@ -14,6 +14,7 @@ use Rattle.desk.specs.Desk.{State}
 abbrev pub movedBy : Report → ℕ
 movedBy (Moved n) = n
 movedBy (Checked s f) = 0
+movedBy (Compacted n why) = 0
 
 -- RULES, Answers: done has status $00; a refusal has its number, and length 0
 abbrev pub status : Answer → ℕ

@@ -7,7 +7,7 @@ use mathlib.Core.Path.{_≡_}
 use Prim.Native.Nat.{ℕ, _-_}
 use lib.Dec.{leb, ltb}
 use lib.ListN.{length}
-use Rattle.numbers.specs.Numbers.{lastUser}
+use Rattle.numbers.specs.Numbers.{lastUser, mostQuota}
 use Rattle.lists.specs.Lists.{if_then_else_, _or_, _and_, all}
 use Rattle.lists.specs.Parts.{sectors}
 use Rattle.volume.specs.Names.{userOf}
@@ -17,19 +17,20 @@ use Rattle.volume.specs.Formatted.{formatted}
 use Rattle.files.specs.Files.{extent, sound}
 use Rattle.files.specs.Rights.{hasRight}
 use Rattle.files.specs.Changes.{deleted, broughtUp}
+use Rattle.compaction.specs.Compaction.{Closing, compacted}
 use Rattle.luns.specs.declared.Mode.{Mode}
 use Rattle.luns.specs.Luns.{placeless, agree, isHeld, movedTo, freeLun, readsByRight}
 use Rattle.luns.specs.declared.Place.{Place}
 use Rattle.luns.specs.declared.Place.the-variants.{Fresh, At}
 use Rattle.luns.specs.Modes.{writes, modeOf, reads}
 use Rattle.luns.specs.declared.Lun.{Lun}
-use Rattle.work.specs.declared.Refusal.the-variants.{BadLun, NotSound, BadRequest, WrongCode, NoRight, UnknownType, InUse}
+use Rattle.work.specs.declared.Refusal.the-variants.{BadLun, NotSound, BadRequest, WrongCode, NoRight, UnknownType, InUse, OutOfRange}
 use Rattle.work.specs.Refusals.{Rule, _if_}
 use Rattle.work.specs.Volumes.{slotOf, namedRules, formatRules, bringUpRules, allocateRules, newFile}
 use Rattle.work.specs.Transfers.{readRules, writeRules, updateRules, Moving, reading, writing, updating, units}
 use Rattle.desk.specs.Desk.{State, ready, lunAt, mine, spare, fileOf, aimed, putLun, emptyDesk}
 use Rattle.desk.specs.declared.Desk.{Desk}
-use Rattle.desk.specs.declared.Report.the-variants.{Moved, Checked}
+use Rattle.desk.specs.declared.Report.the-variants.{Moved, Checked, Compacted}
 use Rattle.desk.specs.Answers.{Change, Outcome, judged, outcome}
 use Rattle.desk.specs.declared.Answer.{Answer}
 
@@ -37,6 +38,7 @@ use Rattle.desk.specs.declared.Answer.{Answer}
 pub data Call : Type 0 where
   Format : (id : List ℕ) (dirs : ℕ) → Call
   Check BringUp : Call
+  Compact : (quota : ℕ) → Call
   Allocate : (caller : ℕ) (desc : List ℕ) (kind size long rc : ℕ) → Call
   Assign : (caller lun : ℕ) (desc : List ℕ) (mode : ℕ) (end : Bool) (offered : ℕ) → Call
   Close Rewind : (caller lun : ℕ) → Call
@@ -44,8 +46,8 @@ pub data Call : Type 0 where
   Read : (caller lun sel num : ℕ) (formatted : Bool) (buffer : List ℕ) → Call
   Write Update : (caller lun sel num : ℕ) (formatted : Bool) (bytes : List ℕ) → Call
 
--- RULES, The calls: all but format, check and bring-up begin with $6F and $03; `fine` says whether caller and LUN are as the call wants
--- them
+-- RULES, The calls: all but format, check, bring-up and compact begin with $6F and $03; `fine` says whether caller and LUN are as the call
+-- wants them
 unfoldable pub beginRules : State → Bool → List Rule
 beginRules s fine = NotSound if not (ready s) ∷ BadLun if not fine ∷ []
 
@@ -90,6 +92,10 @@ deleteRules s caller desc =
     beginRules s (leb caller lastUser)
     ++ (namedRules (s .image) desc ++ removeRules (s .desk) caller (userOf desc) (slotOf (s .image) desc))
 
+-- RULES, Orders of refusals: compact: $6F, $60; it asks for no caller
+unfoldable pub compactRules : State → ℕ → List Rule
+compactRules s n = NotSound if not (ready s) ∷ OutOfRange if ltb mostQuota n ∷ []
+
 -- RULES, Orders of refusals: format: $60
 -- RULES, Orders of refusals: check: none
 -- RULES, Orders of refusals: bring-up: $6F
@@ -102,6 +108,7 @@ unfoldable pub rules : Call → State → List Rule
 rules (Format id n) s = formatRules (s .image) id n
 rules Check s = []
 rules BringUp s = bringUpRules (s .image)
+rules (Compact n) s = compactRules s n
 rules (Allocate caller desc k n l rc) s = beginRules s (leb caller lastUser) ++ allocateRules (s .image) caller desc k n l rc
 rules (Assign caller lun desc mode end offered) s = assignRules s caller lun desc mode end offered
 rules (Close caller lun) s = beginRules s (mine (s .desk) caller lun)
@@ -134,12 +141,17 @@ checked s = record {
   buffer = [];
 }
 
+-- RULES, Compact: how many sectors were moved, and why it ended; the desk stays
+unfoldable pub closedUpTo : State → Closing → Change
+closedUpTo s c = record { report = Compacted (c .moved) (c .ending); image = c .image; desk = s .desk; buffer = [] }
+
 -- RULES, The calls: what each call does, under Format to Update
 -- RULES, Close and rewind: close frees the LUN; rewind makes its place Fresh
 unfoldable pub done : Call → State → Change
 done (Format id n) s = quietly (formatted id n (sectors (s .image))) emptyDesk
 done Check s = checked s
 done BringUp s = quietly (broughtUp (s .image)) (s .desk)
+done (Compact n) s = closedUpTo s (compacted n (s .image))
 done (Allocate caller desc k n l rc) s = quietly (newFile (s .image) desc k n l rc) (s .desk)
 done (Assign caller lun desc mode end offered) s =
     quietly (s .image) (putLun (s .desk) lun (newLun (s .image) caller desc mode end offered))
@@ -155,6 +167,7 @@ unfoldable pub given : Call → List ℕ
 given (Format id n) = []
 given Check = []
 given BringUp = []
+given (Compact n) = []
 given (Allocate caller desc k n l rc) = []
 given (Assign caller lun desc mode end offered) = []
 given (Close caller lun) = []
@@ -168,6 +181,7 @@ unfoldable pub sent : Call → List ℕ
 sent (Format id n) = id
 sent Check = []
 sent BringUp = []
+sent (Compact n) = []
 sent (Allocate caller desc k n l rc) = rc ∷ desc
 sent (Assign caller lun desc mode end offered) = offered ∷ desc
 sent (Close caller lun) = []
@@ -191,6 +205,7 @@ unfoldable pub touch : Call → State → Touch
 touch (Format id n) s = Everything
 touch Check s = Nothing
 touch BringUp s = RecordCounts
+touch (Compact n) s = WhereFilesLie
 touch (Allocate caller desc k n l rc) s = Nothing
 touch (Assign caller lun desc mode end offered) s = Nothing
 touch (Close caller lun) s = Nothing
@@ -210,6 +225,6 @@ abbrev pub Ensured : Call → State → Answer → List ℕ → Desk → List �
 Ensured c s a img d buf = outcome a img d buf ≡ step c s
 
 unfoldable pub calls-open : Unit {0}
-unfolding beginRules openRules startOf seatOf seatRules newLun assignRules removeRules deleteRules rules quietly after transferred checked
-    done given sent touch step
+unfolding beginRules openRules startOf seatOf seatRules newLun assignRules removeRules deleteRules compactRules rules quietly after
+    transferred checked closedUpTo done given sent touch step
 calls-open = tt

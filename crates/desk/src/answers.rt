@@ -38,6 +38,10 @@ fn moved_by(r: Report) -> u32
     match r {
         Report::Moved(n) => n,
         Report::Checked { sound: _, free: _ } => 0,
+        Report::Compacted {
+            moved: _,
+            ending: _,
+        } => 0,
     }
 }
 

@@ -1,6 +1,7 @@
-// The public face: the desk of sixteen logical units (LUNs), and the eleven calls as its methods: format, check and bring-up (volumes),
-// allocate, delete, assign, close, rewind, read, write, update. Each takes any image, any desk and any numbers, hands the desk back in its
-// reply, and states one equation: answer, image, desk and buffer are those of `step` of specs/Calls.
+// The public face: the desk of sixteen logical units (LUNs), and the twelve calls as its methods: format, check, bring-up and compact
+// (volumes), allocate, delete, assign, close, rewind, read, write, update. Each takes any image, any desk and any numbers, hands the desk
+// back in its reply, and states one equation: answer, image, desk and buffer are those of `step` of specs/Calls.
+use compaction::Ending;
 use luns::Lun;
 use numbers::LUNS;
 use work::Refusal;
@@ -19,10 +20,12 @@ pub struct Desk {
     pub luns: [Lun; LUNS],
 }
 
-/// What a call that was carried out tells: the data bytes moved; or check's verdict, with the free sectors.
+/// What a call that was carried out tells: the data bytes moved; check's verdict, with the free sectors; or the sectors that a compaction
+/// moved, and why it ended.
 pub enum Report {
     Moved(u32),
     Checked { sound: bool, free: u32 },
+    Compacted { moved: u32, ending: Ending },
 }
 
 /// What a call answers: done, with its report; or refused.

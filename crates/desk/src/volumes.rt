@@ -1,11 +1,20 @@
-// Format, which makes a volume of any bytes, check, which judges any bytes, and bring-up of a volume from before there were record counts.
+// Format, which makes a volume of any bytes, check, which judges any bytes, bring-up of a volume from before there were record counts, and
+// compact, which closes a volume up.
 ghost use mathlib.Core.List.{[]};
 ghost use Rattle.desk.specs.Desk.{state};
-ghost use Rattle.desk.specs.Calls.{Ensured, Format, Check, BringUp};
+ghost use mathlib.Core.Path.{_≡_};
+ghost use Rattle.desk.specs.Answers.{outcome};
+ghost use Rattle.desk.specs.Calls.{Ensured, Format, Check, BringUp, Compact};
+ghost use Rattle.desk.specs.Code.Left.{Begins, closeLeft};
 use crate::Desk;
 use crate::Reply;
 use crate::Report;
+use crate::opening::Begun;
+use compaction::closing;
 use files::check;
+use numbers::MOST_QUOTA;
+use volume::locate::Layout;
+use work::Refusal;
 use work::bringing;
 use work::formatting;
 
@@ -40,5 +49,39 @@ impl Desk {
         ensures { λ r. ⌜ Ensured BringUp (state (now (image .entry)) self) (r .answer) (now (image .exit)) (r .desk) [] ⌝ }
     {
         self.answer(self, bringing::bring_up(image))
+    }
+
+    // Of a sound volume that the desk fits.
+    fn close_up(self, image: &mut [u8], p: Layout, quota: u32) -> Reply
+        requires { ⌜ Begins (state (now image) self) p ⌝ }
+        ensures { λ r. ⌜ outcome (r .answer) (now (image .exit)) (r .desk) [] ≡ closeLeft (state (now (image .entry)) self) quota ⌝ }
+    {
+        let most = quota as usize;
+        if MOST_QUOTA < most {
+            return Reply::refused(Refusal::OutOfRange, self);
+        }
+        let c = closing::compact(image, p, most);
+        let moved = c.moved as u32;
+        let ending = c.ending;
+        Reply::done(
+            Report::Compacted {
+                moved: moved,
+                ending: ending,
+            },
+            self,
+        )
+    }
+
+    /// Closes the volume up: the highest-numbered data sector of any sequential file goes to the lowest free sector, as long as that one is
+    /// lower, at most `quota` times. Reports the sectors moved and why it ended. What is read of the files stays, and so does the desk.
+    /// Refuses a volume that is not sound or a desk that does not fit, then a quota above 2,048. It asks for no caller.
+    pub fn compact(self, image: &mut [u8], quota: u32) -> Reply
+        ensures { λ r. ⌜ Ensured (Compact quota) (state (now (image .entry)) self) (r .answer) (now (image .exit)) (r .desk) [] ⌝ }
+    {
+        let begun = self.begin(image, true);
+        match begun {
+            Begun::Refused(why) => Reply::refused(why, self),
+            Begun::At(p) => self.close_up(image, p, quota),
+        }
     }
 }

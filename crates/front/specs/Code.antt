@@ -1,3 +1,4 @@
 pub mod Orders
 pub mod Passed
 pub mod Spans
+pub mod Tallies

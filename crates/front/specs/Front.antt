@@ -5,16 +5,19 @@ use Prim.Native.Nat.{ℕ, _+_}
 use lib.Dec.{eqb}
 use lib.ListN.{length}
 use Rattle.lists.specs.Lists.{if_then_else_, _and_}
+use Rattle.lists.specs.Parts.{bytes2}
+use Rattle.compaction.specs.declared.Ending.{Ending}
+use Rattle.compaction.specs.declared.Ending.the-variants.{Settled, QuotaUsed, SegmentNeeded}
 use Rattle.work.specs.declared.Refusal.the-variants.{NotSound, BadRequest, BadLength}
 use Rattle.work.specs.Refusals.{Rule, _if_, ruled}
 use Rattle.deskbytes.specs.DeskBytes.{deskSize, deskForm, packedLuns, unpackedLuns}
 use Rattle.desk.specs.declared.Answer.{Answer}
 use Rattle.desk.specs.declared.Answer.the-variants.{Done, Refused}
-use Rattle.desk.specs.declared.Report.the-variants.{Moved, Checked}
+use Rattle.desk.specs.declared.Report.the-variants.{Moved, Checked, Compacted}
 use Rattle.desk.specs.declared.Desk.{Desk}
 use Rattle.desk.specs.Desk.{state, emptyDesk}
 use Rattle.desk.specs.Answers.{Outcome, status, accepts}
-use Rattle.desk.specs.Calls.{Call, Format, Check, BringUp, Rewind, Read, Write, Update, step}
+use Rattle.desk.specs.Calls.{Call, Format, Check, BringUp, Compact, Rewind, Read, Write, Update, step}
 use Rattle.front.specs.Blocks.{blockSize, functionOf, optionsOf, lunIn, numberIn, startIn, endIn, selectorIn, formattedIn, isTransfer}
 use Rattle.front.specs.Blocks.{supported, blockAfter}
 use Rattle.front.specs.Areas.{inside, partNamed, taskAfter, sharedAfter}
@@ -61,6 +64,7 @@ soundBit = 0x10000
 abbrev pub verdict : Answer → ℕ
 verdict (Done (Moved n)) = 0
 verdict (Done (Checked s f)) = (if s then soundBit else 0) + f
+verdict (Done (Compacted n why)) = 0
 verdict (Refused why) = 0
 
 unfoldable pub serveCheck : List ℕ → ℕ
@@ -69,6 +73,29 @@ serveCheck img = verdict (step Check (state img emptyDesk) .answer)
 -- RULES, The front: bring-up looks at no desk bytes, and leaves them. What it returns, and the image after it
 unfoldable pub serveBringUp : List ℕ → List ℕ → Served
 serveBringUp img bs = served (status (step BringUp (state img emptyDesk) .answer)) (step BringUp (state img emptyDesk) .image) bs
+
+-- RULES, The front: compact is lent four bytes more for its report. If it is carried out they get why it ended, zero, and how many sectors
+-- were moved; a refusal leaves them, and a report of another length is never written
+abbrev pub reportSize : ℕ
+reportSize = 4
+
+abbrev pub endingNumber : Ending → ℕ
+endingNumber Settled = 1
+endingNumber QuotaUsed = 2
+endingNumber SegmentNeeded = 3
+
+abbrev pub reportBytes : ℕ → Ending → List ℕ
+reportBytes n why = endingNumber why ∷ 0 ∷ bytes2 n
+
+abbrev pub reported : Answer → List ℕ → List ℕ
+reported (Done (Moved n)) rep = rep
+reported (Done (Checked s f)) rep = rep
+reported (Done (Compacted n why)) rep = if eqb (length rep) reportSize then reportBytes n why else rep
+reported (Refused why) rep = rep
+
+unfoldable pub reportAfter : ℕ → List ℕ → List ℕ → List ℕ → List ℕ
+reportAfter n img bs rep =
+    ruled (NotSound if not (deskForm bs) ∷ []) (λ why. rep) (reported (step (Compact n) (state img (unpackedDesk bs)) .answer) rep)
 
 -- What a request block comes with: the block, the image, the desk bytes, the task's own area and the shared segment
 pub record Lent : Type 0 where
@@ -130,6 +157,6 @@ front caller l =
     (carriedOut (step (asked caller l) (state (l .image) (unpackedDesk (l .desk)))) l)
 
 unfoldable pub front-open : Unit {0}
-unfolding packedDesk unpackedDesk deskAfter serve serveFormat serveCheck serveBringUp frontRules transferAsked asked turnedBack carriedOut
-    front
+unfolding packedDesk unpackedDesk deskAfter serve serveFormat serveCheck serveBringUp reportAfter frontRules transferAsked asked
+    turnedBack carriedOut front
 front-open = tt

@@ -5,10 +5,11 @@ ghost use mathlib.Core.Path.{_≡_};
 ghost use mathlib.Core.List.{[]};
 ghost use lib.Dec.{eqb};
 ghost use mathlib.Core.Bool.{not};
-ghost use Rattle.desk.specs.Calls.{Allocate, Assign, Close, Delete};
-ghost use Rattle.front.specs.Front.{served, serve, serveFormat, serveCheck, serveBringUp, lent, ended, front};
+ghost use Rattle.desk.specs.Calls.{Compact, Allocate, Assign, Close, Delete};
+ghost use Rattle.front.specs.Front.{served, serve, serveFormat, serveCheck, serveBringUp, reportAfter, lent, ended, front};
 use crate::blocks;
 use crate::desks;
+use crate::reports::write_report;
 use crate::requests;
 use crate::verdicts::verdict_of;
 use desk::Desk;
@@ -73,6 +74,29 @@ pub extern "C" fn twynarvel_bring_up(image: &mut [u8]) -> u32
     let d = Desk::empty();
     let r = d.bring_up(image);
     let a = r.answer;
+    status_of(a) as u32
+}
+
+/// Closes the volume up, by at most `quota` sectors moved. If it is carried out and the report has four bytes, they get why it ended (1
+/// settled, 2 quota, 3 segments), zero, and the number of sectors moved; a report of another length is not written. Refuses $6F for desk
+/// bytes that stand for no desk; then as the call does. The desk bytes stay.
+#[no_mangle]
+pub extern "C" fn twynarvel_compact(
+    image: &mut [u8],
+    desk: &[u8],
+    quota: u32,
+    report: &mut [u8],
+) -> u32
+    ensures { λ r. ⌜ (served r (now (image .exit)) (now (desk .entry)) ≡ serve (Compact quota) (now (image .entry)) (now (desk .entry)))
+        × (now (report .exit) ≡ reportAfter quota (now (image .entry)) (now (desk .entry)) (now (report .entry))) ⌝ }
+{
+    if !deskbytes::in_form(desk) {
+        return code_of(Refusal::NotSound) as u32;
+    }
+    let d = desks::open(desk);
+    let r = d.compact(image, quota);
+    let a = r.answer;
+    write_report(a, report);
     status_of(a) as u32
 }
 

@@ -5,5 +5,6 @@ pub mod areas;
 pub mod blocks;
 pub mod desks;
 pub mod gateway;
+pub mod reports;
 pub mod requests;
 pub mod verdicts;

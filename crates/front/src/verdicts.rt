@@ -27,6 +27,10 @@ fn reported(r: Report) -> u32
     match r {
         Report::Moved(_) => 0,
         Report::Checked { sound, free } => told(sound, free),
+        Report::Compacted {
+            moved: _,
+            ending: _,
+        } => 0,
     }
 }
 

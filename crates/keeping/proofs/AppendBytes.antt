@@ -1,21 +1,19 @@
 -- An append to bytes writes bytes: every number in the new access block fits its word.
-use mathlib.Core.List.{List, [], _∷_, _++_}
+use mathlib.Core.List.{List, _++_}
 use mathlib.Core.Path.{_≡_, ap, sym, _∙_}
-use mathlib.Core.Bool.{true, Bool, false}
-use Prim.Native.Nat.{ℕ, zero, suc, _%_, _<_, _+_, _≤_, _*_, _/_}
+use mathlib.Core.Bool.{true, false}
+use Prim.Native.Nat.{ℕ, zero, suc, _%_, _<_, _+_, _≤_, _*_}
 use native.Mathlib.Omega.{arith}
-use lib.ListN.{length, take, drop}
-use lib.Dec.{eqb·suc-zero, eqb}
-use borrow.Author.Tests.{leb-true, ltb-true}
-use Rattle.numbers.specs.Numbers.{mostSegments, mostSectors}
+use lib.ListN.{length, drop}
+use lib.Dec.{eqb·suc-zero}
+use Rattle.numbers.specs.Numbers.{mostSegments}
 use Rattle.lists.specs.Parts.{bytes2, blanks, inSectors, sectors}
-use Rattle.lists.specs.Lists.{flat, pieces, if_then_else_, all}
 use Rattle.lists.proofs.AreBytes.{Bytes}
 use Rattle.lists.proofs.Tests.{and-left, and-right}
 use Rattle.volume.specs.Volume.{satAt, dirAt, dirs, sat, layoutOf}
 use Rattle.volume.specs.Directory.{entryAt, unused, contiguous, start, recordLength, recordCount, withCount, putEntry}
 use Rattle.volume.specs.Sat.{withBits, free, putSat}
-use Rattle.lists.proofs.ByteLists.{bytes-append, bytes-blanks, bytes-bytes2, bytes-nil, bytes-take, bytes-drop, bytes-filled, bytes-part, bytes-put, bytes-sector, bytes-putSector}
+use Rattle.lists.proofs.ByteLists.{bytes-append, bytes-blanks, bytes-bytes2, bytes-drop, bytes-part, bytes-put, bytes-sector, bytes-putSector}
 use Rattle.volume.proofs.Bits.{length-satOf}
 use Rattle.volume.proofs.EntryCounted.{bytes-withCount}
 use Rattle.volume.proofs.Located.{located-sound}
@@ -24,10 +22,10 @@ use Rattle.volume.proofs.BitsSet.{bytes-withBits}
 use Rattle.volume.proofs.SatChanged.{bytes-satOf}
 use Rattle.records.specs.Records.{allowed, encoded}
 use Rattle.records.proofs.RecordStreams.{allowed-small}
-use Rattle.records.proofs.LaidStream.{inside}
-use Rattle.ownership.specs.Blocks.{segStart, segLength, extended, extendedBy, segmentSound, blockOf, block, segments, pairs, blockSound}
+use Rattle.ownership.specs.Blocks.{block, segments, pairs, blockSound}
 use Rattle.ownership.specs.Owners.{logical, allOwned}
-use Rattle.ownership.proofs.Segments.{sound-extended}
+use Rattle.ownership.proofs.AccessBlocks.{joined}
+use Rattle.ownership.proofs.BlockBytes.{bytes-pieces, bytes-extendedBy, bytes-blockOf}
 use Rattle.files.specs.Files.{stream, recordsIn}
 use Rattle.files.specs.Changes.{longer, needed, newSectors, newPairs, lengthened, oneMore, appended}
 use Rattle.files.proofs.Bounds.{records-short}
@@ -40,16 +38,6 @@ use Rattle.files.proofs.taking.LowestFree.{below-few}
 use Rattle.files.proofs.appending.OwnersJoined.{inside-table}
 use Rattle.files.proofs.appending.GrownBlock.{grownBlock, new-inside, grown-inside, grown-distinct, length-grown, grown-holds}
 
--- of a join that is bytes, each side is
-bytes-left : (a b : List ℕ) → Bytes (a ++ b) → Bytes a
-bytes-left [] b h i = omega arith
-bytes-left (x ∷ a) b h zero = h 0
-bytes-left (x ∷ a) b h (suc i) = bytes-left a b (λ j. h (suc j)) i
-
-bytes-right : (a b : List ℕ) → Bytes (a ++ b) → Bytes b
-bytes-right [] b h i = h i
-bytes-right (x ∷ a) b h i = bytes-right a b (λ j. h (suc j)) i
-
 -- a record in the stream
 pub bytes-encoded : (l : ℕ) (r : List ℕ) → allowed l r ≡ true → Bytes r → Bytes (encoded l r)
 unfolding encoded
@@ -57,55 +45,6 @@ bytes-encoded zero r a h =
     bytes-append (bytes2 (length r)) (r ++ blanks (length r % 2)) (bytes-bytes2 (length r) (omega (arith, allowed-small 0 r a)))
     (bytes-append r (blanks (length r % 2)) h (bytes-blanks (length r % 2)))
 bytes-encoded (suc l) r a h = rw (eqb·suc-zero l) h
-
--- the pairs of an access block, one after the other
-joined : List (List ℕ) → List ℕ
-joined ps = flat (λ p. p) ps
-
-bytes-pair : (s n : ℕ) → s < 65536 → n < 65536 → Bytes (bytes2 s ++ bytes2 n)
-bytes-pair s n hs hn = bytes-append (bytes2 s) (bytes2 n) (bytes-bytes2 s hs) (bytes-bytes2 n hn)
-
-bytes-pieces : (k : ℕ) (l : List ℕ) → Bytes l → Bytes (joined (pieces k 4 l))
-unfolding joined flat pieces
-bytes-pieces zero l h = bytes-nil
-bytes-pieces (suc k) l h = bytes-append (take 4 l) (joined (pieces k 4 (drop 4 l))) (bytes-take 4 l h) (bytes-pieces k (drop 4 l) (bytes-drop 4 l h))
-
-module _ (t : ℕ) (small : t ≤ mostSectors) where
-  pair-low : (p : List ℕ) → segmentSound t p ≡ true → segStart p + segLength p ≤ t
-  unfolding segmentSound
-  pair-low p h = leb-true _ _ (and-right _ _ h)
-
-  bytes-extended : (ps : List (List ℕ)) (s : ℕ) → s < t → all (segmentSound t) ps ≡ true → Bytes (joined ps) → Bytes (joined (extended ps s))
-  unfolding joined flat extended all
-  bytes-extended [] s hs g h = bytes-append (bytes2 s ++ bytes2 1) [] (bytes-pair s 1 (omega arith) (omega arith)) bytes-nil
-  bytes-extended (p ∷ []) s hs g h = go (eqb (segStart p + segLength p) s)
-    where
-      go : (b : Bool) → Bytes (flat (λ q. q) (if b then (bytes2 (segStart p) ++ bytes2 (segLength p + 1)) ∷ [] else p ∷ (bytes2 s ++ bytes2 1) ∷ []))
-      go true =
-          let l : segStart p + segLength p ≤ t = pair-low p (and-left _ _ g) in
-          bytes-append (bytes2 (segStart p) ++ bytes2 (segLength p + 1)) [] (bytes-pair (segStart p) (segLength p + 1) (omega arith) (omega arith)) bytes-nil
-      go false = bytes-append p ((bytes2 s ++ bytes2 1) ++ []) (bytes-left p [] h) (bytes-append (bytes2 s ++ bytes2 1) [] (bytes-pair s 1 (omega arith) (omega arith)) bytes-nil)
-  bytes-extended (p ∷ q ∷ ps) s hs g h =
-      bytes-append p (joined (extended (q ∷ ps) s)) (bytes-left p (joined (q ∷ ps)) h)
-      (bytes-extended (q ∷ ps) s hs (and-right _ _ g) (bytes-right p (joined (q ∷ ps)) h))
-
-  bytes-extendedBy : (ps : List (List ℕ)) (ss : List ℕ) → inside t ss ≡ true → all (segmentSound t) ps ≡ true → Bytes (joined ps) → Bytes (joined (extendedBy ps ss))
-  unfolding extendedBy all
-  bytes-extendedBy ps [] i g h = h
-  bytes-extendedBy ps (s ∷ ss) i g h =
-      let l : s < t = ltb-true s t (and-left _ _ i) in
-      bytes-extendedBy (extended ps s) ss (and-right _ _ i) (sound-extended t ps s l g) (bytes-extended ps s l g h)
-
-bytes-blockOf : (ps : List (List ℕ)) (n e : ℕ) → length ps < 65536 → n < 65536 → e < 65536 * 65536 → Bytes (joined ps) → Bytes (blockOf ps n e)
-unfolding blockOf joined
-bytes-blockOf ps n e hp hn he h =
-    let m : ℕ = e / 65536 in
-    let l : ℕ = e % 65536 in
-    bytes-filled 256 (bytes2 (length ps) ++ (bytes2 n ++ (bytes2 m ++ (bytes2 l ++ flat (λ p. p) ps))))
-    (bytes-append (bytes2 (length ps)) (bytes2 n ++ (bytes2 m ++ (bytes2 l ++ flat (λ p. p) ps))) (bytes-bytes2 (length ps) hp)
-    (bytes-append (bytes2 n) (bytes2 m ++ (bytes2 l ++ flat (λ p. p) ps)) (bytes-bytes2 n hn)
-    (bytes-append (bytes2 m) (bytes2 l ++ flat (λ p. p) ps) (bytes-bytes2 m (omega arith))
-    (bytes-append (bytes2 l) (flat (λ p. p) ps) (bytes-bytes2 l (omega arith)) h))))
 
 module _ (v : List ℕ) (F : Facts v) (k : ℕ) (hk : k < 8 * dirs v) (used : unused (entryAt v k) ≡ false) (seq : contiguous (entryAt v k) ≡ false)
     (r : List ℕ) (fine : allowed (recordLength (entryAt v k)) r ≡ true) (enough : needed v (entryAt v k) r ≤ free v)

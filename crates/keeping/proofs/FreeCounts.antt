@@ -1,66 +1,32 @@
--- How many sectors are free: all that nobody owns; and what a change of one file, a format and an append make of that number.
+-- How many sectors a file owns and an append needs, and how many are free after a format and after an append.
 use mathlib.Core.Path.{_≡_, refl, ap, _∙_}
-use mathlib.Core.Bool.{Bool, true, false, not}
+use mathlib.Core.Bool.{Bool, true, false}
 use mathlib.Core.List.{List, _++_}
 use Prim.Native.Nat.{ℕ, _+_, _-_, _*_, _%_, _≤_, _<_}
 use native.Mathlib.Omega.{arith}
 use lib.ListN.{length, length-append}
-use lib.Dec.{eqb, ltb}
-use borrow.Author.Tests.{ltb-true}
+use lib.Dec.{eqb}
 use Rattle.numbers.specs.Numbers.{mostSegments}
-use Rattle.lists.specs.Lists.{if_then_else_, range, kept, among, all}
+use Rattle.lists.specs.Lists.{if_then_else_}
 use Rattle.lists.specs.Parts.{bytes2, blanks, inSectors, sectors}
-use Rattle.lists.proofs.Lists.{all-ext, all-among}
 use Rattle.lists.proofs.Puts.{length-blanks}
-use Rattle.lists.proofs.Keeps.{range-out}
-use Rattle.lists.proofs.RangeParts.{distinct-range}
-use Rattle.lists.proofs.Ranges.{length-range, range-below}
-use Rattle.lists.proofs.KeptCount.{kept-same, outside}
+use Rattle.lists.proofs.Ranges.{length-range}
 use Rattle.volume.specs.Names.{volumeId}
-use Rattle.volume.specs.Volume.{dirs, sat, systemOf, inRange, layoutOf}
+use Rattle.volume.specs.Volume.{dirs, systemOf, inRange}
 use Rattle.volume.specs.Directory.{entryAt, unused, contiguous, size, recordLength}
-use Rattle.volume.specs.Sat.{isFree, freeSectors, free}
+use Rattle.volume.specs.Sat.{free}
 use Rattle.volume.specs.Formatted.{freshLayout, formatted}
-use Rattle.volume.proofs.Located.{located-sound}
 use Rattle.records.specs.Records.{allowed, encoded}
 use Rattle.ownership.specs.Blocks.{block, total, streamLength}
-use Rattle.ownership.specs.Owners.{owned, allOwned}
+use Rattle.ownership.specs.Owners.{owned}
 use Rattle.ownership.proofs.OwnedRuns.{owned-unused, owned-run}
-use Rattle.ownership.proofs.BlockFacts.{allOwned-within}
 use Rattle.files.specs.Changes.{longer, needed, newSectors, newPairs, oneMore, appended}
 use Rattle.files.proofs.SoundFacts.{Facts, facts}
-use Rattle.files.proofs.OneFileChanged.{Changed, sectors-kept, owned-was, owned-now}
+use Rattle.files.proofs.Kept.FreeAndOwned.{free-and-owned, changed-free}
 use Rattle.files.proofs.SequentialFile.{owned-is, length-logical, length-stream}
 use Rattle.files.proofs.appending.GrownBlock.{length-new}
-use Rattle.keeping.proofs.FreedSectors.{free-is}
 use Rattle.keeping.proofs.FormatSound.{format-sound, format-sectors, format-owned}
 use Rattle.keeping.proofs.AppendKeeps.{appended-changed, appended-facts, appended-owned}
-
--- every sector is free or owned
-pub free-and-owned : (v : List ℕ) → Facts v → free v + length (allOwned v) ≡ sectors v
-unfolding free freeSectors
-free-and-owned v F =
-    let below = allOwned-within v (layoutOf v) (located-sound v (F .one)) (F .three) in
-    let all-in : all (λ y. among y (range 0 (sectors v))) (allOwned v) ≡ true =
-    all-ext _ _ _ (allOwned v) (λ y a b. range-out y 0 (sectors v) (omega arith) (omega (arith, ltb-true y (sectors v) a))) below below in
-    let same : kept (isFree (sat v)) (range 0 (sectors v)) ≡ kept (λ x. not (among x (allOwned v))) (range 0 (sectors v)) =
-    kept-same (λ x. not (among x (allOwned v))) (isFree (sat v)) (range 0 (sectors v)) (λ x m.
-    free-is v F x (ltb-true _ _ (all-among (λ u. ltb u (sectors v)) (range 0 (sectors v)) x (range-below (sectors v) 0 (sectors v) (omega arith)) m))) in
-    ap (λ (l : List ℕ). length l + length (allOwned v)) same
-    ∙ outside (range 0 (sectors v)) (allOwned v) (distinct-range 0 (sectors v)) (F .none-twice) all-in ∙ length-range 0 (sectors v)
-
--- one file changed: what it owned and owns settles the count
-pub changed-free : (v v′ : List ℕ) (k : ℕ) (e′ ws : List ℕ) → Changed v v′ k e′ ws → Facts v → Facts v′
-    → free v′ + length (owned v′ e′) ≡ free v + length (owned v (entryAt v k))
-changed-free v v′ k e′ ws C F G =
-    omega (
-      arith,
-      free-and-owned v F,
-      free-and-owned v′ G,
-      sectors-kept v v′ k e′ ws C,
-      simp length-append at (ap length (owned-was v v′ k e′ ws C)),
-      simp length-append at (ap length (owned-now v v′ k e′ ws C)),
-    )
 
 -- how many sectors a file owns
 pub unused-count : (v e : List ℕ) → unused e ≡ true → length (owned v e) ≡ 0

@@ -4,7 +4,6 @@ use mathlib.Core.Bool.{Bool, true, false, not}
 use mathlib.Core.List.{List, [], _++_}
 use Prim.Native.Nat.{ℕ, _*_, _<_}
 use native.Mathlib.Omega.{arith}
-use borrow.Author.Tests.{lt-leb}
 use Rattle.lists.specs.Lists.{_or_, _and_, range, among, distinct, index}
 use Rattle.lists.specs.Parts.{blanks, sectors}
 use Rattle.lists.proofs.Tests.{or-second, zeros-blanks}
@@ -14,8 +13,7 @@ use Rattle.lists.proofs.JoinedLists.{middle-apart}
 use Rattle.lists.proofs.IndexFound.{index-before}
 use Rattle.volume.specs.Volume.{dirs, sat}
 use Rattle.volume.specs.Directory.{entries, entryAt, unused, entry, fields}
-use Rattle.volume.specs.Sat.{marked, isFree, owns}
-use Rattle.volume.proofs.Bits.{marked-satOf}
+use Rattle.volume.specs.Sat.{isFree}
 use Rattle.ownership.specs.Owners.{owned, allOwned}
 use Rattle.ownership.proofs.OwnedRuns.{owned-unused}
 use Rattle.files.specs.Files.{sound}
@@ -23,17 +21,10 @@ use Rattle.files.specs.Changes.{taken, allocated, deleted}
 use Rattle.files.proofs.SoundFacts.{Facts, facts}
 use Rattle.files.proofs.EntryAndSatWritten.{tables}
 use Rattle.files.proofs.OneFileChanged.{Changed, sectors-kept, ahead, behind, owned-was, owned-now}
+use Rattle.files.proofs.Kept.FreeAndOwned.{free-is}
 use Rattle.files.proofs.allocation.Allocatable.{Allocatable}
 use Rattle.keeping.proofs.DeleteKeeps.{delete-changed, delete-sound}
 use Rattle.keeping.proofs.AllocateKeeps.{allocate-changed, allocate-owned, allocate-sound}
-
--- a sector of a sound volume is free exactly if nobody owns it
-pub free-is : (v : List ℕ) → Facts v → (x : ℕ) → x < sectors v → isFree (sat v) x ≡ not (among x (allOwned v))
-unfolding isFree owns _or_
-free-is v F x h =
-    let m : marked (sat v) x ≡ among x (allOwned v) =
-    ap (λ (b : List ℕ). marked b x) (F .sat-right) ∙ marked-satOf (sectors v) (allOwned v) x (omega (arith, F .high)) ∙ rw (lt-leb (sectors v) x h) in
-    ap not m
 
 -- owners left out are free, and nothing else becomes so
 without : (p g b : List ℕ) (x : ℕ) → distinct (p ++ (g ++ b)) ≡ true → not (among x (p ++ b)) ≡ (not (among x (p ++ (g ++ b))) or among x g)

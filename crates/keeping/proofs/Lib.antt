@@ -6,6 +6,7 @@ pub mod DeleteKeeps
 pub mod FormatSound
 pub mod FreeCounts
 pub mod FreedSectors
+pub mod LongRuns
 pub mod NamesAfter
 pub mod OverwriteKeeps
 pub mod SlotFound

@@ -10,7 +10,9 @@ pub mod JoinedLists
 pub mod Keeps
 pub mod KeptCount
 pub mod LentParts
+pub mod ListReplaced
 pub mod Lists
+pub mod Members
 pub mod Pieces
 pub mod PutBytes
 pub mod Puts
@@ -18,4 +20,5 @@ pub mod RangeParts
 pub mod Ranges
 pub mod Replaced
 pub mod Tests
+pub mod TopmostFound
 pub mod Walks

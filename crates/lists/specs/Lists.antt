@@ -36,6 +36,11 @@ unfoldable pub first : (ℕ → Bool) → ℕ → ℕ → ℕ
 first p i zero = i
 first p i (suc n) = elim (p i) [ true ↦ i | false ↦ first p (suc i) n ]
 
+-- the highest number below n at which p holds, or 0
+unfoldable pub topmost : (ℕ → Bool) → ℕ → ℕ
+topmost p zero = 0
+topmost p (suc n) = elim (p n) [ true ↦ n | false ↦ topmost p n ]
+
 -- p holds at each element, or at some; those at which it holds; the lists that f gives, one after the other
 module _ {A : Type 0} where
   unfoldable pub all : (A → Bool) → List A → Bool
@@ -78,5 +83,5 @@ sum [] = 0
 sum (x ∷ xs) = x + sum xs
 
 unfoldable pub lists-open : Unit {0}
-unfolding _or_ _and_ pieces range first all some kept flat index among distinct same
+unfolding _or_ _and_ pieces range first topmost all some kept flat index among distinct same
 lists-open = tt

@@ -35,3 +35,7 @@ lunCount = 16
 -- RULES, Words and numbers: users 0 to 65,533
 abbrev pub lastUser : ℕ
 lastUser = 65533
+
+-- RULES, Words and numbers: a quota of 0 to 2,048 sectors of one compaction
+abbrev pub mostQuota : ℕ
+mostQuota = 2048

@@ -29,3 +29,6 @@ pub const LUNS: usize = 16;
 
 /// The highest user number.
 pub const LAST_USER: u32 = 65533;
+
+/// The highest quota of one compaction, in sectors.
+pub const MOST_QUOTA: usize = 2048;

@@ -51,29 +51,29 @@ blockOf-snoc qs p n e h =
     ∙ ap (λ (x : List ℕ). front (length qs + 1) n e ++ (x ++ blanks (248 - 4 * (length qs + 1)))) (joined-snoc qs p)
     ∙ ap (λ (x : List ℕ). front (length qs + 1) n e ++ x) (append-assoc (joined qs) p (blanks (248 - 4 * (length qs + 1))))
 
--- a new segment of one sector
-module _ (ps : List (List ℕ)) (n e s : ℕ) (h : fours ps ≡ true) (l : length ps < mostSegments) where
+-- a new segment of m sectors
+module _ (ps : List (List ℕ)) (n e s m : ℕ) (h : fours ps ≡ true) (l : length ps < mostSegments) where
   new-before : blockOf ps n e ≡ (front (length ps) n e ++ joined ps) ++ (blanks 4 ++ blanks (248 - 4 * (length ps + 1)))
   new-before =
       let z : 248 - 4 * length ps - 4 ≡ 248 - 4 * (length ps + 1) = omega arith in
       blockOf-parts ps n e h
       ∙ ap (λ (x : List ℕ). front (length ps) n e ++ (joined ps ++ x)) (blanks-four (248 - 4 * length ps) (omega arith) ∙ ap (λ (m : ℕ). blanks 4 ++ blanks m) z)
 
-  pub put-new : put 0 (bytes2 (length ps + 1)) (put (8 + 4 * length ps) (pair s 1) (blockOf ps n e)) ≡ blockOf (ps ++ (pair s 1 ∷ [])) n e
+  pub put-new : put 0 (bytes2 (length ps + 1)) (put (8 + 4 * length ps) (pair s m) (blockOf ps n e)) ≡ blockOf (ps ++ (pair s m ∷ [])) n e
   put-new =
-      let m : length (front (length ps) n e ++ joined ps) ≡ 8 + 4 * length ps = omega (arith, length-joined ps h) in
+      let l : length (front (length ps) n e ++ joined ps) ≡ 8 + 4 * length ps = omega (arith, length-joined ps h) in
       let z : List ℕ = blanks (248 - 4 * (length ps + 1)) in
-      ap (λ (x : List ℕ). put 0 (bytes2 (length ps + 1)) (put (8 + 4 * length ps) (pair s 1) x)) new-before
-      ∙ ap (put 0 (bytes2 (length ps + 1))) (put-seam (front (length ps) n e ++ joined ps) (pair s 1) (blanks 4) z (8 + 4 * length ps) m (length-blanks 4))
-      ∙ put-count (length ps) (length ps + 1) n e (joined ps ++ (pair s 1 ++ z))
-      ∙ sym (blockOf-snoc ps (pair s 1) n e (fours-append ps (pair s 1 ∷ []) h (fours-one s 1)))
+      ap (λ (x : List ℕ). put 0 (bytes2 (length ps + 1)) (put (8 + 4 * length ps) (pair s m) x)) new-before
+      ∙ ap (put 0 (bytes2 (length ps + 1))) (put-seam (front (length ps) n e ++ joined ps) (pair s m) (blanks 4) z (8 + 4 * length ps) l (length-blanks 4))
+      ∙ put-count (length ps) (length ps + 1) n e (joined ps ++ (pair s m ++ z))
+      ∙ sym (blockOf-snoc ps (pair s m) n e (fours-append ps (pair s m ∷ []) h (fours-one s m)))
 
--- the last segment one sector longer
-lengthened-snoc : (ps : List (List ℕ)) (p : List ℕ) → lengthened (ps ++ (p ∷ [])) ≡ ps ++ (pair (segStart p) (segLength p + 1) ∷ [])
+-- the last segment m sectors longer
+pub lengthened-snoc : (ps : List (List ℕ)) (p : List ℕ) (m : ℕ) → lengthened (ps ++ (p ∷ [])) m ≡ ps ++ (pair (segStart p) (segLength p + m) ∷ [])
 unfolding lengthened
-lengthened-snoc [] p = refl
-lengthened-snoc (q ∷ []) p = refl
-lengthened-snoc (q ∷ r ∷ ps) p = rw (lengthened-snoc (r ∷ ps) p)
+lengthened-snoc [] p m = refl
+lengthened-snoc (q ∷ []) p m = refl
+lengthened-snoc (q ∷ r ∷ ps) p m = rw (lengthened-snoc (r ∷ ps) p m)
 
 pub snoc-view : (ps : List (List ℕ)) → 1 ≤ length ps → ps ≡ take (length ps - 1) ps ++ (lastPair ps ∷ [])
 snoc-view ps h =
@@ -116,13 +116,13 @@ module _ (qs : List (List ℕ)) (p : List ℕ) (n e w : ℕ) (h : fours (qs ++ (
       ∙ ap (λ (x : List ℕ). f ++ x) (append-assoc (joined qs) a (bytes2 w ++ z))
       ∙ sym (blockOf-snoc qs (pair (segStart p) w) n e (fours-append qs (pair (segStart p) w ∷ []) k (fours-one (segStart p) w)))
 
-pub put-longer : (ps : List (List ℕ)) (n e : ℕ) → fours ps ≡ true → 1 ≤ length ps → byte (lastPair ps) 1 < 256
-    → put (6 + 4 * length ps) (bytes2 (segLength (lastPair ps) + 1)) (blockOf ps n e) ≡ blockOf (lengthened ps) n e
+pub put-longer : (ps : List (List ℕ)) (n e m : ℕ) → fours ps ≡ true → 1 ≤ length ps → byte (lastPair ps) 1 < 256
+    → put (6 + 4 * length ps) (bytes2 (segLength (lastPair ps) + m)) (blockOf ps n e) ≡ blockOf (lengthened ps m) n e
 unfolding fours
-put-longer ps n e h l b =
+put-longer ps n e m h l b =
     let qs : List (List ℕ) = take (length ps - 1) ps in
     let p : List ℕ = lastPair ps in
-    let w : ℕ = segLength p + 1 in
+    let w : ℕ = segLength p + m in
     let v : ps ≡ qs ++ (p ∷ []) = snoc-view ps l in
     let hv : fours (qs ++ (p ∷ [])) ≡ true = sym (ap fours v) ∙ h in
     let lp : length p ≡ 4 = eqb-true _ _ (all-at (λ q. eqb (length q) 4) ps (length ps - 1) [] h (omega arith)) in
@@ -130,4 +130,4 @@ put-longer ps n e h l b =
     ap (λ (j : ℕ). put j (bytes2 w) (blockOf ps n e)) i
     ∙ ap (λ (x : List (List ℕ)). put (10 + 4 * length qs) (bytes2 w) (blockOf x n e)) v
     ∙ put-longer-at qs p n e w hv lp b
-    ∙ ap (λ (x : List (List ℕ)). blockOf x n e) (sym (ap lengthened v ∙ lengthened-snoc qs p))
+    ∙ ap (λ (x : List (List ℕ)). blockOf x n e) (sym (ap (λ (x : List (List ℕ)). lengthened x m) v ∙ lengthened-snoc qs p m))

@@ -65,23 +65,24 @@ module _ (f : List ℕ) (sh : BlockShaped f) where
         ∙ ap (put 4 (bytes2 (e / 65536) ++ bytes2 (e % 65536))) (put-total (pairs f) (total f) (streamLength f) n)
         ∙ put-streamLength (pairs f) n (streamLength f) e
 
-    pub wrote-longer : (x : List ℕ) (k w : ℕ) → k ≡ segments f → 1 ≤ segments f → w ≡ word f (6 + 4 * k) → x ≡ put (6 + 4 * k) (bytes2 (w + 1)) f
-        → x ≡ blockOf (lengthened (pairs f)) (total f) (streamLength f)
-    wrote-longer x k w e h ew q =
+    pub wrote-longer : (x : List ℕ) (k w n : ℕ) → k ≡ segments f → 1 ≤ segments f → w ≡ word f (6 + 4 * k) → x ≡ put (6 + 4 * k) (bytes2 (w + n)) f
+        → x ≡ blockOf (lengthened (pairs f) n) (total f) (streamLength f)
+    wrote-longer x k w n e h ew q =
         let l = length-pairs f sh in
         let i : 6 + 4 * k ≡ 6 + 4 * length (pairs f) = omega arith in
         let v : w ≡ segLength (lastPair (pairs f)) = ew ∙ ap (λ (j : ℕ). word f (6 + 4 * j)) e ∙ sym (last-length h) in
         let y : byte (lastPair (pairs f)) 1 < 256 = rw (last-is, second-at f (segments f - 1) (omega arith)) (b (9 + 4 * (segments f - 1))) in
-        q ∙ ap (λ (j : ℕ). put j (bytes2 (w + 1)) f) i ∙ ap (λ (j : ℕ). put (6 + 4 * length (pairs f)) (bytes2 (j + 1)) f) v
-        ∙ ap (put (6 + 4 * length (pairs f)) (bytes2 (segLength (lastPair (pairs f)) + 1))) (block-is f sh b)
-        ∙ put-longer (pairs f) (total f) (streamLength f) (fours-pairs f sh) (omega arith) y
+        q ∙ ap (λ (j : ℕ). put j (bytes2 (w + n)) f) i ∙ ap (λ (j : ℕ). put (6 + 4 * length (pairs f)) (bytes2 (j + n)) f) v
+        ∙ ap (put (6 + 4 * length (pairs f)) (bytes2 (segLength (lastPair (pairs f)) + n))) (block-is f sh b)
+        ∙ put-longer (pairs f) (total f) (streamLength f) n (fours-pairs f sh) (omega arith) y
 
-    pub wrote-new : (x : List ℕ) (k s : ℕ) → k ≡ segments f → segments f < mostSegments → x ≡ put 0 (bytes2 (k + 1)) (put (8 + 4 * k + 2) (bytes2 1) (put (8 + 4 * k) (bytes2 s) f))
-        → x ≡ blockOf (pairs f ++ (pair s 1 ∷ [])) (total f) (streamLength f)
-    wrote-new x k s e h q =
+    pub wrote-new : (x : List ℕ) (k s n : ℕ) → k ≡ segments f → segments f < mostSegments
+        → x ≡ put 0 (bytes2 (k + 1)) (put (8 + 4 * k + 2) (bytes2 n) (put (8 + 4 * k) (bytes2 s) f))
+        → x ≡ blockOf (pairs f ++ (pair s n ∷ [])) (total f) (streamLength f)
+    wrote-new x k s n e h q =
         let l = length-pairs f sh in
         let m : k ≡ length (pairs f) = omega arith in
-        q ∙ ap (put 0 (bytes2 (k + 1))) (put-next (8 + 4 * k) (bytes2 s) (bytes2 1) f (omega (arith, sh .whole)))
-        ∙ ap (λ (j : ℕ). put 0 (bytes2 (j + 1)) (put (8 + 4 * j) (pair s 1) f)) m
-        ∙ ap (λ (y : List ℕ). put 0 (bytes2 (length (pairs f) + 1)) (put (8 + 4 * length (pairs f)) (pair s 1) y)) (block-is f sh b)
-        ∙ put-new (pairs f) (total f) (streamLength f) s (fours-pairs f sh) (omega arith)
+        q ∙ ap (put 0 (bytes2 (k + 1))) (put-next (8 + 4 * k) (bytes2 s) (bytes2 n) f (omega (arith, sh .whole)))
+        ∙ ap (λ (j : ℕ). put 0 (bytes2 (j + 1)) (put (8 + 4 * j) (pair s n) f)) m
+        ∙ ap (λ (y : List ℕ). put 0 (bytes2 (length (pairs f) + 1)) (put (8 + 4 * length (pairs f)) (pair s n) y)) (block-is f sh b)
+        ∙ put-new (pairs f) (total f) (streamLength f) s n (fours-pairs f sh) (omega arith)

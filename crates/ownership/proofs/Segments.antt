@@ -29,7 +29,7 @@ segment-one : (s : ℕ) → segment (pair s 1) ≡ s ∷ []
 unfolding range
 segment-one s = segment-pair s 1
 
-pub extended-on : (ps : List (List ℕ)) (s : ℕ) → follows ps s ≡ true → extended ps s ≡ lengthened ps
+pub extended-on : (ps : List (List ℕ)) (s : ℕ) → follows ps s ≡ true → extended ps s ≡ lengthened ps 1
 unfolding follows extended lengthened
 extended-on [] s h = absurd (let z : _≡_ {A = ℕ} 0 1 = cc in omega arith)
 extended-on (p ∷ []) s h = rw h
@@ -43,7 +43,7 @@ extended-new (p ∷ q ∷ ps) s h = rw (extended-new (q ∷ ps) s h)
 
 -- by cases: every law of `extended` is one of each
 module _ (P : List (List ℕ) → Type 0) (ps : List (List ℕ)) (s : ℕ) where
-  pub extended-cases : (follows ps s ≡ true → P (lengthened ps)) → (follows ps s ≡ false → P (ps ++ (pair s 1 ∷ []))) → P (extended ps s)
+  pub extended-cases : (follows ps s ≡ true → P (lengthened ps 1)) → (follows ps s ≡ false → P (ps ++ (pair s 1 ∷ []))) → P (extended ps s)
   extended-cases f g = go (follows ps s) refl
     where
       go : (b : Bool) → follows ps s ≡ b → P (extended ps s)
@@ -55,7 +55,7 @@ flat-one : (s : ℕ) → flat segment (pair s 1 ∷ []) ≡ s ∷ []
 unfolding flat
 flat-one s = append-nil (segment (pair s 1)) ∙ segment-one s
 
-flat-lengthened : (ps : List (List ℕ)) (s : ℕ) → follows ps s ≡ true → flat segment (lengthened ps) ≡ flat segment ps ++ (s ∷ [])
+flat-lengthened : (ps : List (List ℕ)) (s : ℕ) → follows ps s ≡ true → flat segment (lengthened ps 1) ≡ flat segment ps ++ (s ∷ [])
 unfolding follows lengthened flat segment
 flat-lengthened [] s h = absurd (let z : _≡_ {A = ℕ} 0 1 = cc in omega arith)
 flat-lengthened (p ∷ []) s h =
@@ -75,16 +75,16 @@ flat-extendedBy ps [] = sym (append-nil (flat segment ps))
 flat-extendedBy ps (s ∷ ss) = flat-extendedBy (extended ps s) ss ∙ rw (flat-extended ps s) (append-assoc (flat segment ps) (s ∷ []) ss)
 
 -- how many pairs: as many, or one more
-pub length-lengthened : (ps : List (List ℕ)) → length (lengthened ps) ≡ length ps
+pub length-lengthened : (ps : List (List ℕ)) (n : ℕ) → length (lengthened ps n) ≡ length ps
 unfolding lengthened
-length-lengthened [] = refl
-length-lengthened (p ∷ []) = refl
-length-lengthened (p ∷ q ∷ ps) = ap suc (length-lengthened (q ∷ ps))
+length-lengthened [] n = refl
+length-lengthened (p ∷ []) n = refl
+length-lengthened (p ∷ q ∷ ps) n = ap suc (length-lengthened (q ∷ ps) n)
 
 pub length-extended : (ps : List (List ℕ)) (s : ℕ) → (length ps ≤ length (extended ps s)) × (length (extended ps s) ≤ length ps + 1)
 length-extended ps s =
     extended-cases (λ qs. (length ps ≤ length qs) × (length qs ≤ length ps + 1)) ps s
-    (λ h. let l = length-lengthened ps in (omega arith, omega arith))
+    (λ h. let l = length-lengthened ps 1 in (omega arith, omega arith))
     (λ h. let l = length-append ps (pair s 1 ∷ []) in (omega arith, omega arith))
 
 pub length-extendedBy : (ps : List (List ℕ)) (ss : List ℕ) → (length ps ≤ length (extendedBy ps ss)) × (length (extendedBy ps ss) ≤ length ps + length ss)
@@ -111,7 +111,7 @@ pub fours-one : (s n : ℕ) → fours (pair s n ∷ []) ≡ true
 unfolding fours all _and_
 fours-one s n = refl
 
-fours-lengthened : (ps : List (List ℕ)) → fours ps ≡ true → fours (lengthened ps) ≡ true
+fours-lengthened : (ps : List (List ℕ)) → fours ps ≡ true → fours (lengthened ps 1) ≡ true
 unfolding fours all lengthened
 fours-lengthened [] h = refl
 fours-lengthened (p ∷ []) h = fours-one (segStart p) (segLength p + 1)
@@ -130,7 +130,7 @@ sum-append : (ps qs : List (List ℕ)) → sum (map (λ p. segLength p) (ps ++ q
 sum-append [] qs = sym (zero-add _)
 sum-append (p ∷ ps) qs = let e = sum-append ps qs in omega (arith, e)
 
-sum-lengthened : (ps : List (List ℕ)) (s : ℕ) → follows ps s ≡ true → sum (map (λ p. segLength p) (lengthened ps)) ≡ sum (map (λ p. segLength p) ps) + 1
+sum-lengthened : (ps : List (List ℕ)) (s : ℕ) → follows ps s ≡ true → sum (map (λ p. segLength p) (lengthened ps 1)) ≡ sum (map (λ p. segLength p) ps) + 1
 unfolding follows lengthened
 sum-lengthened [] s h = absurd (let z : _≡_ {A = ℕ} 0 1 = cc in omega arith)
 sum-lengthened (p ∷ []) s h = let e = segLength-pair (segStart p) (segLength p + 1) in omega (arith, e)
@@ -160,7 +160,7 @@ module _ (t : ℕ) where
   sound-append [] qs h g = g
   sound-append (p ∷ ps) qs h g = both-true _ _ (and-left _ _ h) (sound-append ps qs (and-right _ _ h) g)
 
-  sound-lengthened : (ps : List (List ℕ)) (s : ℕ) → follows ps s ≡ true → s < t → all (segmentSound t) ps ≡ true → all (segmentSound t) (lengthened ps) ≡ true
+  sound-lengthened : (ps : List (List ℕ)) (s : ℕ) → follows ps s ≡ true → s < t → all (segmentSound t) ps ≡ true → all (segmentSound t) (lengthened ps 1) ≡ true
   unfolding follows lengthened all
   sound-lengthened [] s h l g = refl
   sound-lengthened (p ∷ []) s h l g =

@@ -1,12 +1,13 @@
 // File access blocks: where their numbers stand; read, judged, extended, written.
 ghost use mathlib.Core.Path.{_≡_};
-ghost use Prim.Native.Nat.{_*_, _≤_, _<_};
+ghost use Prim.Native.Nat.{_+_, _*_, _≤_, _<_};
 ghost use Rattle.numbers.specs.Numbers.{mostSegments};
 ghost use Rattle.ownership.specs.Blocks.{pairs, segments, total, streamLength, segStart, segLength, blockOf, extended};
 ghost use Rattle.ownership.specs.Blocks.{blockSound, placed, sound3};
 ghost use Rattle.ownership.specs.Code.Shapes.{BlockShaped, HasSegment, pairAt, follows, lastPair, lengthened, pair, Extends};
-ghost use Rattle.ownership.specs.Code.Shapes.{withPairs, segmentsFit};
+ghost use Rattle.ownership.specs.Code.Shapes.{withPairs, segmentsFit, ExtendsRun, Extended};
 ghost use mathlib.Core.List.{[], _∷_, _++_};
+ghost use Rattle.lists.specs.Lists.{range};
 ghost use lib.ListN.{length};
 ghost use Rattle.volume.specs.Code.Located.{Located};
 use lists::parts::all_zero;
@@ -76,27 +77,27 @@ fn joins(f: &[u8], s: usize) -> bool
     seg_start(f, k) + seg_length(f, k) == s
 }
 
-// The last segment one sector longer.
-fn lengthen(f: &mut [u8])
-    requires { ⌜ BlockShaped (now f) × (1 ≤ segments (now f)) × (segLength (lastPair (pairs (now f))) < 65535) ⌝ }
-    ensures { λ _. ⌜ now (f .exit) ≡ withPairs (now (f .entry)) (lengthened (pairs (now (f .entry)))) ⌝ }
+// The last segment n sectors longer.
+fn lengthen(f: &mut [u8], n: usize)
+    requires { ⌜ BlockShaped (now f) × (1 ≤ segments (now f)) × (segLength (lastPair (pairs (now f))) + n < 65536) ⌝ }
+    ensures { λ _. ⌜ now (f .exit) ≡ withPairs (now (f .entry)) (lengthened (pairs (now (f .entry))) n) ⌝ }
 {
-    let n = segments(f);
-    let at = 6 + 4 * n;
+    let k = segments(f);
+    let at = 6 + 4 * k;
     let len = word_at(f, at);
-    put_word(f, at, len + 1);
+    put_word(f, at, len + n);
 }
 
-// A new segment of one sector.
-fn open_segment(f: &mut [u8], s: usize)
-    requires { ⌜ BlockShaped (now f) × (segments (now f) < mostSegments) × (s < 65536) ⌝ }
-    ensures { λ _. ⌜ now (f .exit) ≡ withPairs (now (f .entry)) (pairs (now (f .entry)) ++ (pair s 1 ∷ [])) ⌝ }
+// A new segment of n sectors from s on.
+fn open_segment(f: &mut [u8], s: usize, n: usize)
+    requires { ⌜ BlockShaped (now f) × (segments (now f) < mostSegments) × (s < 65536) × (n < 65536) ⌝ }
+    ensures { λ _. ⌜ now (f .exit) ≡ withPairs (now (f .entry)) (pairs (now (f .entry)) ++ (pair s n ∷ [])) ⌝ }
 {
-    let n = segments(f);
-    let at = 8 + 4 * n;
+    let k = segments(f);
+    let at = 8 + 4 * k;
     put_word(f, at, s);
-    put_word(f, at + 2, 1);
-    put_word(f, 0, n + 1);
+    put_word(f, at + 2, n);
+    put_word(f, 0, k + 1);
 }
 
 /// One sector more at the file's end.
@@ -105,10 +106,29 @@ pub fn extend(f: &mut [u8], s: usize)
     ensures { λ _. ⌜ now (f .exit) ≡ withPairs (now (f .entry)) (extended (pairs (now (f .entry))) s) ⌝ }
 {
     if joins(f, s) {
-        lengthen(f);
+        lengthen(f, 1);
         return;
     }
-    open_segment(f, s);
+    open_segment(f, s, 1);
+}
+
+/// n sectors from s on more at the file's end, if 62 segments are enough. If not, the answer is false, and what f holds then is left open.
+pub fn extend_run(f: &mut [u8], s: usize, n: usize) -> bool
+    requires { ⌜ ExtendsRun (now f) s n ⌝ }
+    ensures { λ r. ⌜ Extended (now (f .entry)) (range s n) r (now (f .exit)) ⌝ }
+{
+    if n == 0 {
+        return true;
+    }
+    if joins(f, s) {
+        lengthen(f, n);
+        return true;
+    }
+    if MOST_SEGMENTS <= segments(f) {
+        return false;
+    }
+    open_segment(f, s, n);
+    true
 }
 
 /// The total of data sectors and the stream's length, written anew.

@@ -14,7 +14,8 @@ use Rattle.work.specs.Refusals.{code, Rule, _if_}
 use Rattle.desk.specs.declared.Answer.{Answer}
 use Rattle.desk.specs.declared.Answer.the-variants.{Done, Refused}
 use Rattle.desk.specs.Answers.{status, Outcome, moved, outcome}
-use Rattle.desk.specs.Calls.{step, Call, rules, Format, Check, BringUp, Allocate, Assign, Close, Rewind, Delete, Read, Write, Update, beginRules, openRules, assignRules}
+use Rattle.desk.specs.Calls.{step, Call, rules, Format, Check, BringUp, Compact, Allocate, Assign, Close, Rewind, Delete, Read, Write, Update, beginRules, openRules, assignRules}
+use Rattle.desk.specs.Calls.{compactRules}
 use Rattle.desk.specs.Calls.{deleteRules}
 use Rattle.desk.specs.Desk.{State, ready}
 use Rattle.promises.specs.Answers.{statusTable, InTable, First, RefusedExactly, RefusalKeeps, UnreadyRefused, OneOutcome}
@@ -86,10 +87,11 @@ unready c s rs e h =
     ap (λ (o : Outcome). o .answer) (step-first c s 0 NotSound (rw e first-rule))
 
 pub unready-refused : UnreadyRefused
-unfolding rules beginRules openRules assignRules deleteRules
+unfolding rules beginRules openRules assignRules deleteRules compactRules
 unready-refused (Format id n) s f k u h = absurd (f id n refl)
 unready-refused Check s f k u h = absurd (k refl)
 unready-refused BringUp s f k u h = absurd (u refl)
+unready-refused (Compact n) s f k u h = unready (Compact n) s _ refl h
 unready-refused (Allocate caller desc i n l rc) s f k u h = unready (Allocate caller desc i n l rc) s _ refl h
 unready-refused (Assign caller lun desc mode end offered) s f k u h = unready (Assign caller lun desc mode end offered) s _ refl h
 unready-refused (Close caller lun) s f k u h = unready (Close caller lun) s _ refl h

@@ -19,19 +19,21 @@ use Rattle.files.proofs.SoundFacts.{facts}
 use Rattle.keeping.proofs.AllocateKeeps.{allocate-changed, allocate-sound, allocate-owned}
 use Rattle.keeping.proofs.DeleteKeeps.{delete-changed, delete-sound}
 use Rattle.keeping.proofs.OverwriteKeeps.{overwritten-free}
-use Rattle.keeping.proofs.FreeCounts.{changed-free, unused-count, run-count, records-count, appended-free, encoded-count, needed-count}
+use Rattle.files.proofs.Kept.FreeAndOwned.{changed-free}
+use Rattle.keeping.proofs.FreeCounts.{unused-count, run-count, records-count, appended-free, encoded-count, needed-count}
 use Rattle.work.specs.Volumes.{slotOf, newFile}
 use Rattle.work.specs.Transfers.{written, writing, updating, reading, moving}
 use Rattle.desk.specs.Desk.{State, fileOf, aimed}
 use Rattle.desk.specs.Answers.{Outcome}
-use Rattle.desk.specs.Calls.{Call, Format, Check, BringUp, Allocate, Assign, Close, Rewind, Delete, Read, Write, Update, quietly, transferred, checked, done}
+use Rattle.desk.specs.Calls.{Call, Format, Check, BringUp, Compact, Allocate, Assign, Close, Rewind, Delete, Read, Write, Update, quietly, transferred, checked, closedUpTo, done}
 use Rattle.promises.specs.Sectors.{Bytes}
 use Rattle.promises.specs.Contents.{slotHeld}
 use Rattle.promises.specs.Answers.{NoFormat}
 use Rattle.promises.specs.Counts.{sectorsHeld, growth, trade, FreeCount}
 use Rattle.promises.proofs.Passing.{Accepted, accepted}
-use Rattle.promises.proofs.Told.{AllocateTold, allocate-told, DeleteTold, delete-told, WriteTold, write-told, update-told}
+use Rattle.promises.proofs.Told.{compact-told, AllocateTold, allocate-told, DeleteTold, delete-told, WriteTold, write-told, update-told}
 use Rattle.promises.proofs.Held.{entryOf, ready-sound}
+use Rattle.compaction.proofs.StepsRearrange.{compacted-rearranged}
 use Rattle.promises.proofs.Filing.{can-allocate}
 use Rattle.promises.proofs.NamedFile.{file-there, file-used}
 use Rattle.promises.proofs.Effects.BroughtUp.{bring-up-told, up-free}
@@ -105,10 +107,12 @@ module _ (caller lun sel num : ℕ) (bs : List ℕ) (s : State) (T : WriteTold s
           rw (q, written-records (slotHeld s lun) i bs v q, sym (needs q)) (omega (arith, f))
 
 counted : (c : Call) (s : State) → Bytes (s .image) → NoFormat c → Accepted c s → free (done c s .image) + trade c s .takes ≡ free (s .image) + trade c s .gives
-unfolding done quietly checked transferred trade fileOf reading writing updating moving
+unfolding done quietly checked closedUpTo transferred trade fileOf reading writing updating moving
 counted (Format id n) s b h a = absurd (h id n refl)
 counted Check s b h a = refl
 counted BringUp s b h a = ap (λ (n : ℕ). n + 0) (up-free s (bring-up-told s a))
+counted (Compact n) s b h a =
+    ap (λ (m : ℕ). m + 0) (compacted-rearranged n (s .image) (ready-sound s (compact-told n s a .is-ready)) .as-many-free)
 counted (Allocate caller desc k n l rc) s b h a = free-allocate caller desc k n l rc s (allocate-told caller desc k n l rc s a) ∙ omega arith
 counted (Assign caller lun desc mode end offered) s b h a = refl
 counted (Close caller lun) s b h a = refl

@@ -25,6 +25,7 @@ use Rattle.promises.proofs.Lasts.NeverPastEnd.{never-past-end}
 use Rattle.promises.proofs.Fronts.PackedDesks.{desk-reads-back, no-two-desks-alike, one-plain-desk}
 use Rattle.promises.proofs.Fronts.PlainDesks.{calls-make-plain}
 use Rattle.promises.proofs.Fronts.FrontAnswers.{front-in-table, request-refusal-keeps, front-refusal-keeps, short-block, front-refused-exactly, one-ending}
+use Rattle.promises.proofs.Fronts.ReportsTold.{reports-told}
 use Rattle.promises.proofs.Fronts.FrontCarried.{block-answered, only-the-part, only-reads-fill, accepted-through}
 use Rattle.promises.proofs.Fronts.FrontReadBack.{written-through, written-sector-through, updated-through}
 use Rattle.promises.proofs.Fronts.FrontRuns.{requests-are-visits, requests-are-runs, front-stays-good}
@@ -34,6 +35,9 @@ use Rattle.promises.proofs.Private.OldVolumes.{old-volumes}
 use Rattle.promises.proofs.Fronts.ReadsThrough.{read-by-right-through}
 use Rattle.promises.proofs.Effects.BroughtUp.{bring-up-exactly, accepted-bring-up, sound-already}
 use Rattle.promises.proofs.Lasts.StoredCounts.{stored-counts, stored-counts-stay}
+use Rattle.promises.proofs.Effects.OneStep.{fewest-segments, one-step}
+use Rattle.promises.proofs.Effects.Compacted.{accepted-compact, settled-again, reads-alike}
+use Rattle.promises.proofs.Effects.ContentsKept.{contents-kept}
 use Rattle.promises.proofs.Conclusions.{not-all-refused, not-all-done, not-unchanged, not-only-E, check-counts}
 
 pub demands : Demands
@@ -107,6 +111,13 @@ demands = record {
   bring-up-exactly = bring-up-exactly;
   accepted-bring-up = accepted-bring-up;
   sound-already = sound-already;
+  fewest-segments = fewest-segments;
+  one-step = one-step;
+  accepted-compact = accepted-compact;
+  settled-again = settled-again;
+  contents-kept = contents-kept;
+  reads-alike = reads-alike;
+  reports-told = reports-told;
   one-outcome = one-outcome;
   not-all-refused = not-all-refused;
   not-all-done = not-all-done;

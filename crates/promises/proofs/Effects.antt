@@ -1,6 +1,11 @@
-pub mod Formatted
 pub mod Allocated
-pub mod Deleted
-pub mod Seated
-pub mod Buffers
 pub mod BroughtUp
+pub mod Buffers
+pub mod ClosedVolumes
+pub mod Compacted
+pub mod ContentsKept
+pub mod Deleted
+pub mod Formatted
+pub mod OneStep
+pub mod ReadsAlike
+pub mod Seated

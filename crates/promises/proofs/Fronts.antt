@@ -6,3 +6,4 @@ pub mod FrontRuns
 pub mod PackedDesks
 pub mod PlainDesks
 pub mod ReadsThrough
+pub mod ReportsTold

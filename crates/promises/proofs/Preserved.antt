@@ -8,7 +8,8 @@ use Prim.Native.Nat.{ℕ}
 use borrow.Author.Tests.{ne-eqb}
 use Rattle.lists.specs.Parts.{sectors}
 use Rattle.desk.specs.Desk.{State}
-use Rattle.desk.specs.Calls.{Touch, Call, Format, Check, BringUp, Allocate, Assign, Close, Rewind, Delete, Read, Write, Update, quietly, transferred, checked, done, sent, touch}
+use Rattle.desk.specs.Calls.{Touch, Call, Format, Check, BringUp, Compact, Allocate, Assign, Close, Rewind, Delete, Read, Write, Update, quietly, transferred, checked}
+use Rattle.desk.specs.Calls.{closedUpTo, done, sent, touch}
 use Rattle.desk.specs.Calls.{step}
 use Rattle.promises.specs.Sectors.{Good, Sound, Accepts, Bytes, AllBytes, VisitBytes, StaysGood, StaysSound}
 use Rattle.promises.specs.Runs.{next, run, Visit, found, through, visits, RunsAreVisits}
@@ -17,9 +18,12 @@ use Rattle.promises.specs.Answers.{NoFormat}
 use Rattle.promises.specs.Touches.{changes}
 use Rattle.promises.proofs.Preserving.{remakes, Preserves, preserves-desk}
 use Rattle.promises.proofs.Passing.{Accepted, accepted, carriedTo, refused-or-accepted, next-refused, next-accepted}
-use Rattle.promises.proofs.Told.{format-told, allocate-told, assign-told, rewind-told, delete-told, read-told, write-told, update-told}
+use Rattle.promises.proofs.Told.{format-told, compact-told, allocate-told, assign-told, rewind-told, delete-told, read-told, write-told, update-told}
 use Rattle.promises.proofs.Filing.{preserves-format, preserves-allocate, preserves-delete, good-formatted}
 use Rattle.promises.proofs.Effects.BroughtUp.{bring-up-told, preserves-bring-up}
+use Rattle.promises.proofs.Effects.ClosedVolumes.{preserves-rearranged}
+use Rattle.promises.proofs.Held.{ready-sound}
+use Rattle.compaction.proofs.StepsRearrange.{compacted-rearranged}
 use Rattle.promises.proofs.Seating.{preserves-assign, preserves-close, preserves-rewind}
 use Rattle.promises.proofs.Reading.{preserves-read}
 use Rattle.promises.proofs.Writing.{preserves-write}
@@ -32,10 +36,13 @@ preserves-all : (bs : List ℕ) (w : Touch) (s : State) → Preserves bs w s s
 preserves-all bs w s = preserves-desk bs w s (s .desk) (λ g. g)
 
 preserved : (c : Call) (s : State) → Bytes (s .image) → Accepted c s → Preserves (sent c) (touch c s) s (carriedTo c s)
-unfolding sent touch done quietly checked transferred
+unfolding sent touch done quietly checked closedUpTo transferred
 preserved (Format id n) s b a = preserves-format id n s (format-told id n s a)
 preserved Check s b a = preserves-all _ _ s
 preserved BringUp s b a = preserves-bring-up s (bring-up-told s a) []
+preserved (Compact n) s b a =
+    let h = ready-sound s (compact-told n s a .is-ready) in
+    preserves-rearranged [] s _ (compacted-rearranged n (s .image) h) h
 preserved (Allocate caller desc k n l rc) s b a = preserves-allocate caller desc k n l rc s (allocate-told caller desc k n l rc s a) b
 preserved (Assign caller lun desc mode end offered) s b a = preserves-assign caller lun desc mode end offered s (assign-told caller lun desc mode end offered s a)
 preserved (Close caller lun) s b a = preserves-close [] lun s
@@ -69,6 +76,7 @@ unfolding touch remakes
 touches-less (Format id n) s h = absurd (h id n refl)
 touches-less Check s h = refl
 touches-less BringUp s h = refl
+touches-less (Compact n) s h = refl
 touches-less (Allocate caller desc k n l rc) s h = refl
 touches-less (Assign caller lun desc mode end offered) s h = refl
 touches-less (Close caller lun) s h = refl

@@ -11,8 +11,7 @@ use Rattle.lists.proofs.Tests.{both-true}
 use Rattle.volume.specs.Directory.{entryAt, SameButCount}
 use Rattle.volume.proofs.LayoutKept.{keeps-trailer}
 use Rattle.files.specs.Files.{extent, sound}
-use Rattle.files.proofs.OneFileChanged.{Changed, entry-other, file-other, entry-here}
-use Rattle.files.proofs.Kept.RecordsSame.{records-same}
+use Rattle.files.proofs.OneFileChanged.{Changed, entry-here}
 use Rattle.luns.specs.declared.Place.the-variants.{At}
 use Rattle.luns.specs.Luns.{placeExists, movedTo}
 use Rattle.luns.proofs.Fitting.{Fitting, fits-is, place-alike}
@@ -25,7 +24,7 @@ use Rattle.promises.specs.Touches.{changes, ends}
 use Rattle.promises.specs.Sectors.{Bytes, Sound, Good, File}
 use Rattle.promises.specs.Lasting.{Lasting}
 use Rattle.promises.specs.Contents.{unitOf, slotHeld, SameFile, SameFrame}
-use Rattle.promises.proofs.Units.{same-file, same-frame, lasting-image, lasting-same, lasting-by}
+use Rattle.promises.proofs.Units.{same-file, same-other, same-frame, lasting-image, lasting-same, lasting-by}
 use Rattle.promises.proofs.Held.{entryOf, Held, grown-fitting}
 
 -- a touch of everything
@@ -78,19 +77,6 @@ module _ (s t : State) (j : ℕ) (e ws : List ℕ) (C : Changed (s .image) (t .i
   abbrev v′ : List ℕ
   v′ = t .image
 
-  same-other : (k : ℕ) → File v k → k ≢ j → SameFile v v′ k
-  same-other k f n =
-      let S = file-other v v′ j e ws C k (f .slot) n (f .used) in
-      record {
-        entry-same = entry-other v v′ j e ws C k n;
-        contents-same = record {
-          block-same = S .block-same (f .used);
-          places-same = S .logical-same;
-          bytes-same = S .stored-same;
-          records-same = records-same v v′ (entryAt v k) S (f .used);
-        };
-      }
-
   same-around : SameFrame v v′
   same-around = record {
     as-long = C .keeps .long;
@@ -104,10 +90,10 @@ module _ (s t : State) (j : ℕ) (e ws : List ℕ) (C : Changed (s .image) (t .i
   preserves-change bs w g apart here = record {
     sound-after = λ b h. g b .volume;
     good-after = λ b h. g b;
-    others = λ k f h. same-other k f (apart k f h);
+    others = λ k f h. same-other v v′ j e ws C k f (apart k f h);
     units = λ k i. elim (ℕ-discrete k j) [
       | yes p ↦ subst (λ (m : ℕ). File v m → i < extent v (entryAt v m) → ends w m i ≡ false → Lasting v v′ m i) (sym p) (here i)
-      | no n ↦ λ f l h. lasting-same v v′ k i (same-other k f n) l
+      | no n ↦ λ f l h. lasting-same v v′ k i (same-other v v′ j e ws C k f n) l
     ];
     frame = λ n. same-around;
   }

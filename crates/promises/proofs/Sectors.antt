@@ -12,6 +12,7 @@ use Rattle.lists.specs.Lists.{among, distinct, if_then_else_}
 use Rattle.lists.specs.Parts.{sectors}
 use Rattle.lists.proofs.Tests.{or-first, or-second, and-left, and-right}
 use Rattle.volume.specs.Directory.{unused, contiguous, start, entryAt}
+use Rattle.lists.proofs.Members.{among-at}
 use Rattle.volume.specs.Volume.{system}
 use Rattle.volume.specs.Sat.{owns, marked}
 use Rattle.volume.proofs.Bits.{marked-satOf}
@@ -22,21 +23,15 @@ use Rattle.files.proofs.SequentialFile.{owned-distinct, fab-apart}
 use Rattle.files.specs.Files.{sound}
 use Rattle.promises.specs.Sectors.{File, leadsTo, hasSector, NoSystemSector, OneSectorEach, NoAccessBlock, MarkedExactly, SoundInOrder}
 
-getD-among : (xs : List ℕ) (a : ℕ) → a < length xs → among (getD xs a 0) xs ≡ true
-unfolding among
-getD-among [] a h = absurd (not-suc-le-zero h)
-getD-among (x ∷ xs) zero h = or-first _ _ (eq-eqb x x refl)
-getD-among (x ∷ xs) (suc a) h = or-second _ _ (getD-among xs a (le-of-suc-le-suc h))
-
 -- in a list without repeats an element has one place
 one-place : (xs : List ℕ) (a b : ℕ) → distinct xs ≡ true → a < length xs → b < length xs → getD xs a 0 ≡ getD xs b 0 → a ≡ b
 unfolding distinct
 one-place [] a b d ha hb e = absurd (not-suc-le-zero ha)
 one-place (x ∷ xs) zero zero d ha hb e = refl
 one-place (x ∷ xs) zero (suc b) d ha hb e =
-    absurd (true≢false (sym (getD-among xs b (le-of-suc-le-suc hb)) ∙ ap (λ (y : ℕ). among y xs) (sym e) ∙ not-true _ (and-left _ _ d)))
+    absurd (true≢false (sym (among-at xs b (le-of-suc-le-suc hb)) ∙ ap (λ (y : ℕ). among y xs) (sym e) ∙ not-true _ (and-left _ _ d)))
 one-place (x ∷ xs) (suc a) zero d ha hb e =
-    absurd (true≢false (sym (getD-among xs a (le-of-suc-le-suc ha)) ∙ ap (λ (y : ℕ). among y xs) e ∙ not-true _ (and-left _ _ d)))
+    absurd (true≢false (sym (among-at xs a (le-of-suc-le-suc ha)) ∙ ap (λ (y : ℕ). among y xs) e ∙ not-true _ (and-left _ _ d)))
 one-place (x ∷ xs) (suc a) (suc b) d ha hb e = ap suc (one-place xs a b (and-right _ _ d) (le-of-suc-le-suc ha) (le-of-suc-le-suc hb) e)
 
 later : (u x : ℕ) (xs : List ℕ) → among u xs ≡ true → among u (x ∷ xs) ≡ true
@@ -70,7 +65,7 @@ module _ (v : List ℕ) (h : sound v ≡ true) where
 
   -- a logical sector is among those that its file owns
   led : (k a : ℕ) → File v k → hasSector v k a → among (leadsTo v k a) (owned v (entryAt v k)) ≡ true
-  led k a f h = owns-logical v (entryAt v k) _ (f .used) (getD-among (logical v (entryAt v k)) a h)
+  led k a f h = owns-logical v (entryAt v k) _ (f .used) (among-at (logical v (entryAt v k)) a h)
 
   -- and of no other file
   not-led : (j k a : ℕ) → File v j → File v k → j ≢ k → hasSector v j a → among (leadsTo v j a) (owned v (entryAt v k)) ≡ false
@@ -93,7 +88,7 @@ module _ (v : List ℕ) (h : sound v ≡ true) where
   no-access-block : NoAccessBlock v
   no-access-block j k a fj fk q h e = elim (ℕ-discrete k j) [
     | yes p ↦
-        let here : among (leadsTo v k a) (logical v (entryAt v k)) ≡ true = getD-among (logical v (entryAt v k)) a h in
+        let here : among (leadsTo v k a) (logical v (entryAt v k)) ≡ true = among-at (logical v (entryAt v k)) a h in
         let block : among (start (entryAt v j)) (logical v (entryAt v j)) ≡ true =
         rw (ap (λ (x : ℕ). logical v (entryAt v x)) p) at (rw e at here) in
         true≢false (sym block ∙ fab-apart v F j (fj .slot) (fj .used) q)

@@ -6,7 +6,7 @@ use Prim.Native.Nat.{ℕ, _*_, _≤_, _<_}
 use lib.ListN.{length}
 use lib.Dec.{leb}
 use borrow.Author.Tests.{not-false, eqb-true, ltb-false, leb-true, leb-false}
-use Rattle.numbers.specs.Numbers.{lastUser, mostSegments}
+use Rattle.numbers.specs.Numbers.{lastUser, mostSegments, mostQuota}
 use Rattle.lists.specs.Parts.{sectors}
 use Rattle.lists.specs.Lists.{some, _and_, all}
 use Rattle.lists.proofs.Tests.{and-left, and-right, or-left, or-right}
@@ -26,7 +26,8 @@ use Rattle.work.specs.Transfers.{replaceRules, updateRules}
 use Rattle.work.proofs.Rules.{Passes, passes-append}
 use Rattle.work.proofs.TextRules.{stored-fit}
 use Rattle.desk.specs.Desk.{State, ready, spare, mine, lunAt, fileOf, aimed}
-use Rattle.desk.specs.Calls.{beginRules, Format, rules, Allocate, newLun, Assign, seatOf, seatRules, assignRules, Close, Rewind, Delete, removeRules, deleteRules, openRules, Read}
+use Rattle.desk.specs.Calls.{beginRules, compactRules, Format, Compact, rules, Allocate, newLun, Assign, seatOf, seatRules, assignRules, Close, Rewind, Delete, removeRules}
+use Rattle.desk.specs.Calls.{deleteRules, openRules, Read}
 use Rattle.desk.specs.Calls.{Write}
 use Rattle.desk.specs.Calls.{Update}
 use Rattle.promises.proofs.Passing.{Accepted}
@@ -58,6 +59,17 @@ format-told id n s a =
       in-range = and-right _ _ (and-left _ _ h);
       good-id = and-right _ _ h;
     }
+
+-- Compact
+pub record CompactTold (s : State) (quota : ℕ) : Type 0 where
+  pub is-ready : ready s ≡ true
+  pub quota-in : quota ≤ mostQuota
+
+pub compact-told : (quota : ℕ) (s : State) → Accepted (Compact quota) s → CompactTold s quota
+unfolding rules compactRules
+compact-told quota s a =
+    let (notSound, (outOfRange, none)) = a .passes in
+    record { is-ready = not-false _ notSound; quota-in = ltb-false _ _ outOfRange }
 
 -- Allocate
 pub record AllocateTold (s : State) (caller : ℕ) (desc : List ℕ) (k n l rc : ℕ) : Type 0 where

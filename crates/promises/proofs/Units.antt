@@ -3,7 +3,7 @@ use mathlib.Core.Path.{_≡_, ap, _∙_, sym, refl}
 use mathlib.Core.Bool.{true, false, Bool}
 use mathlib.Core.List.{List, [], _∷_, _++_}
 use mathlib.Core.Logic.{_≢_}
-use Prim.Native.Nat.{ℕ, _+_, _*_, _<_}
+use Prim.Native.Nat.{ℕ, _+_, _*_, _≤_, _<_}
 use native.Mathlib.Omega.{arith}
 use lib.ListN.{length, getD, set, List·getD-append}
 use lib.Seq.{getD-set-other, getD-append-add}
@@ -17,6 +17,8 @@ use Rattle.ownership.specs.Owners.{logical}
 use Rattle.files.specs.Files.{records, recordAt, extent, stored}
 use Rattle.files.specs.Changes.{sectorsAt}
 use Rattle.files.proofs.Kept.EntryAlike.{records-alike, extent-alike}
+use Rattle.files.proofs.OneFileChanged.{Changed, entry-other, file-other}
+use Rattle.files.proofs.Kept.RecordsSame.{records-same}
 use Rattle.files.proofs.slot.UsedSlots.{used-slot}
 use Rattle.promises.specs.Contents.{unitOf, SameFile, SameFrame}
 use Rattle.promises.specs.Lasting.{Lasting}
@@ -52,13 +54,13 @@ stored-run : (v e : List ℕ) → contiguous e ≡ true → stored v e ≡ part 
 unfolding stored laidOut logical
 stored-run v e q = rw q (sectors-part (start e) (size e) v)
 
-sector-stored : (v e : List ℕ) (i : ℕ) → contiguous e ≡ true → i < size e → sectorsAt e i 1 v ≡ part (256 * i) 256 (stored v e)
+pub sectors-stored : (v e : List ℕ) (i n : ℕ) → contiguous e ≡ true → i + n ≤ size e → sectorsAt e i n v ≡ part (256 * i) (256 * n) (stored v e)
 unfolding sectorsAt
-sector-stored v e i q h =
+sectors-stored v e i n q h =
     let a : 256 * start e + 256 * i ≡ 256 * (start e + i) = omega arith in
-    sym (ap (part (256 * i) 256) (stored-run v e q)
-    ∙ part-part (256 * start e) (256 * size e) (256 * i) 256 v (omega arith)
-    ∙ ap (λ (x : ℕ). part x 256 v) a)
+    sym (ap (part (256 * i) (256 * n)) (stored-run v e q)
+    ∙ part-part (256 * start e) (256 * size e) (256 * i) (256 * n) v (omega arith)
+    ∙ ap (λ (x : ℕ). part x (256 * n) v) a)
 
 -- the records after a change of them: the same, one more, one replaced
 module _ (v v′ e : List ℕ) where
@@ -109,8 +111,8 @@ module _ (v v′ e : List ℕ) where
     where
       go : (b : Bool) → contiguous e ≡ b → unitOf v′ e i ≡ unitOf v e i
       go true q =
-          let l : i < size e = omega (arith, h, extent-run v e q) in
-          unit-sector v′ e i q ∙ sector-stored v′ e i q l ∙ ap (part (256 * i) 256) bytes ∙ sym (sector-stored v e i q l) ∙ sym (unit-sector v e i q)
+          let l : i + 1 ≤ size e = omega (arith, h, extent-run v e q) in
+          unit-sector v′ e i q ∙ sectors-stored v′ e i 1 q l ∙ ap (part (256 * i) 256) bytes ∙ sym (sectors-stored v e i 1 q l) ∙ sym (unit-sector v e i q)
       go false q = unit-record v′ e i q ∙ record-same v v′ e i (r q) ∙ sym (unit-record v e i q)
 
 -- a unit that stays, in a file whose entry stays but for the count
@@ -128,8 +130,19 @@ module _ (v v′ : List ℕ) (k i : ℕ) where
 pub same-file : (v : List ℕ) (k : ℕ) → SameFile v v k
 same-file v k = record {
   entry-same = refl;
-  contents-same = record { block-same = λ q. refl; places-same = refl; bytes-same = refl; records-same = λ q. refl };
+  contents-same = record { bytes-same = refl; records-same = λ q. refl };
+  places-same = record { block-same = λ q. refl; sectors-same = refl };
 }
+
+-- nor to another file than the one that changed
+pub same-other : (v v′ : List ℕ) (j : ℕ) (e ws : List ℕ) → Changed v v′ j e ws → (k : ℕ) → File v k → k ≢ j → SameFile v v′ k
+same-other v v′ j e ws C k f n =
+    let S = file-other v v′ j e ws C k (f .slot) n (f .used) in
+    record {
+      entry-same = entry-other v v′ j e ws C k n;
+      contents-same = record { bytes-same = S .stored-same; records-same = records-same v v′ (entryAt v k) S (f .used) };
+      places-same = record { block-same = S .block-same (f .used); sectors-same = S .logical-same };
+    }
 
 pub same-frame : (v : List ℕ) → SameFrame v v
 same-frame v = record { as-long = refl; vid-same = refl; trailer-same = refl }

@@ -63,7 +63,7 @@ abbrev pub UnreadyRefused : Type 0
 UnreadyRefused =
     (c : Call) (s : State) → NoFormat c → c ≢ Check → c ≢ BringUp → ready s ≡ false → step c s .answer ≡ Refused NotSound
 
--- At most one outcome satisfies each call's statement: `Ensured` is what the eleven public functions ensure
+-- At most one outcome satisfies each call's statement: `Ensured` is what the twelve public functions ensure
 pub record SameOutcome (a a′ : Answer) (img img′ : List ℕ) (d d′ : Desk) (buf buf′ : List ℕ) : Type 0 where
   pub answers : a ≡ a′
   pub images : img ≡ img′

@@ -17,7 +17,7 @@ use Rattle.desk.specs.Answers.{Outcome}
 use Rattle.desk.specs.Calls.{Format, BringUp, step}
 use Rattle.desk.specs.declared.Answer.the-variants.{Done, Refused}
 use Rattle.desk.specs.declared.Report.the-variants.{Moved}
-use Rattle.promises.specs.Contents.{SameContents}
+use Rattle.promises.specs.Contents.{SameContents, SamePlaces}
 use Rattle.promises.specs.Runs.{Visit, through}
 use Rattle.promises.specs.Sectors.{Accepts, File, VisitBytes}
 
@@ -59,7 +59,8 @@ pub record BroughtUp (s : State) (o : Outcome) : Type 0 where
   pub only-counts : (j : ℕ) → NoCountByte (s .image) j → byte (o .image) j ≡ byte (s .image) j
   pub entries-same : (k : ℕ) → SameButCount (entryAt (s .image) k) (entryAt (o .image) k)
   pub files-same : (k : ℕ) → File (s .image) k
-      → SameContents (s .image) (o .image) (entryAt (s .image) k) (entryAt (o .image) k)
+      → (SameContents (s .image) (o .image) (entryAt (s .image) k) (entryAt (o .image) k))
+      × (SamePlaces (s .image) (o .image) (entryAt (s .image) k) (entryAt (o .image) k))
   pub as-many-free : free (o .image) ≡ free (s .image)
   pub desk-kept : o .desk ≡ s .desk
   pub still-fits : fits (s .image) (s .desk .luns) ≡ true → fits (o .image) (o .desk .luns) ≡ true

@@ -16,7 +16,7 @@ use Rattle.desk.specs.declared.Answer.the-variants.{Done}
 use Rattle.desk.specs.declared.Report.the-variants.{Checked}
 use Rattle.promises.specs.Answers.{Program, RefusesExactly}
 
--- a program that ensures what the eleven functions ensure
+-- a program that ensures what the twelve functions ensure
 abbrev pub Meets : Program → Type 0
 Meets p = (c : Call) (s : State) → Ensured c s (p c s .answer) (p c s .image) (p c s .desk) (p c s .buffer)
 

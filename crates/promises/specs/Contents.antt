@@ -27,7 +27,7 @@ use Rattle.desk.specs.declared.Report.the-variants.{Moved}
 use Rattle.desk.specs.declared.Answer.the-variants.{Done}
 use Rattle.promises.specs.Answers.{NoFormat}
 use Rattle.promises.specs.Sectors.{Accepts, Bytes, File}
-use Rattle.promises.specs.Touches.{changes}
+use Rattle.promises.specs.Touches.{changes, rewrites}
 
 -- unit i of the file with entry e: the data of record i, or the bytes of sector i; the same of the file in slot k
 unfoldable pub unitOf : List ℕ → List ℕ → ℕ → List ℕ
@@ -107,23 +107,37 @@ AcceptedRead =
     (s : State) (caller lun sel num : ℕ) (fmt : Bool) (buf : List ℕ) → Accepts (Read caller lun sel num fmt buf) s
     → (bs : List ℕ) × HandedOver s (step (Read caller lun sel num fmt buf) s) lun (aimed s lun sel num) fmt buf bs
 
--- the file of entry e is as it was, and has entry e′ now: access block, sectors, bytes and, if it is sequential, records
+-- the file of entry e, which has entry e′ now, holds what it held: bytes and, if it is sequential, records
 pub record SameContents (img img′ e e′ : List ℕ) : Type 0 where
-  pub block-same : contiguous e ≡ false → block img′ e′ ≡ block img e
-  pub places-same : logical img′ e′ ≡ logical img e
   pub bytes-same : stored img′ e′ ≡ stored img e
   pub records-same : contiguous e ≡ false → records img′ e′ ≡ records img e
 
--- slot k holds the same file, with the same entry
+-- .. and lies where it lay: access block and sectors
+pub record SamePlaces (img img′ e e′ : List ℕ) : Type 0 where
+  pub block-same : contiguous e ≡ false → block img′ e′ ≡ block img e
+  pub sectors-same : logical img′ e′ ≡ logical img e
+
+-- slot k holds the same file in the same place, with the same entry
 pub record SameFile (img img′ : List ℕ) (k : ℕ) : Type 0 where
   pub entry-same : entryAt img′ k ≡ entryAt img k
   pub contents-same : SameContents img img′ (entryAt img k) (entryAt img k)
+  pub places-same : SamePlaces img img′ (entryAt img k) (entryAt img k)
 
 -- RULES, The calls: a call leaves every file that it does not touch as it was
 abbrev pub OtherFilesKept : Type 0
 OtherFilesKept =
     (s : State) → Bytes (s .image) → (c : Call) (k : ℕ) → File (s .image) k → changes (touch c s) k ≡ false
     → SameFile (s .image) (step c s .image) k
+
+-- RULES, The calls: a call leaves the bytes of every file that it does not rewrite as they were, wherever it lies then
+pub record ContentsStay (img img′ : List ℕ) (k : ℕ) : Type 0 where
+  pub same-but-count : SameButCount (entryAt img k) (entryAt img′ k)
+  pub contents-same : SameContents img img′ (entryAt img k) (entryAt img′ k)
+
+abbrev pub ContentsKept : Type 0
+ContentsKept =
+    (s : State) → Bytes (s .image) → (c : Call) (k : ℕ) → File (s .image) k → rewrites (touch c s) k ≡ false
+    → ContentsStay (s .image) (step c s .image) k
 
 -- "A write or update leaves every other file's bytes as they were."
 abbrev pub OthersKept : Type 0

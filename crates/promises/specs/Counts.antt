@@ -13,7 +13,7 @@ use Rattle.files.specs.Changes.{taken}
 use Rattle.work.specs.Volumes.{slotOf}
 use Rattle.work.specs.Transfers.{storedAs}
 use Rattle.desk.specs.Desk.{State, fileOf}
-use Rattle.desk.specs.Calls.{Call, Format, Check, BringUp, Allocate, Assign, Close, Rewind, Delete, Read, Write, Update, step}
+use Rattle.desk.specs.Calls.{Call, Format, Check, BringUp, Compact, Allocate, Assign, Close, Rewind, Delete, Read, Write, Update, step}
 use Rattle.promises.specs.Sectors.{Bytes, Accepts}
 use Rattle.promises.specs.Answers.{NoFormat}
 
@@ -39,6 +39,7 @@ unfoldable pub trade : Call → State → Trade
 trade (Format id n) s = trading 0 0
 trade Check s = trading 0 0
 trade BringUp s = trading 0 0
+trade (Compact n) s = trading 0 0
 trade (Allocate caller desc k n l rc) s = trading (taken k n) 0
 trade (Assign caller lun desc mode end offered) s = trading 0 0
 trade (Close caller lun) s = trading 0 0

@@ -3,7 +3,8 @@
 use Rattle.promises.specs.Answers.{InTable, RefusalKeeps, RefusedExactly, UnreadyRefused, OneOutcome}
 use Rattle.promises.specs.Runs.{RunsAreVisits}
 use Rattle.promises.specs.Sectors.{StaysGood, StaysSound, SoundInOrder}
-use Rattle.promises.specs.Contents.{AcceptedWrite, AcceptedUpdate, AcceptedRead, OtherFilesKept, OthersKept, FrameKept, OneStreamEach}
+use Rattle.promises.specs.Contents.{AcceptedWrite, AcceptedUpdate, AcceptedRead, OtherFilesKept, ContentsKept, OthersKept}
+use Rattle.promises.specs.Contents.{FrameKept, OneStreamEach}
 use Rattle.promises.specs.Filing.{AcceptedFormat, AcceptedAllocate, AcceptedDelete}
 use Rattle.promises.specs.Seating.{AcceptedAssign, AcceptedClose, AcceptedRewind}
 use Rattle.promises.specs.Counts.{FreeCount}
@@ -14,10 +15,11 @@ use Rattle.promises.specs.Texts.{OptionIgnored}
 use Rattle.promises.specs.DeskBytes.{DeskReadsBack, NoTwoDesksAlike, OnePlainDesk, CallsMakePlain}
 use Rattle.promises.specs.Fronts.{FrontInTable, RequestRefusalKeeps, FrontRefusalKeeps, ShortBlock, BlockAnswered, OnlyThePart}
 use Rattle.promises.specs.Fronts.{OnlyReadsFill, FrontRefusedExactly, AcceptedThrough, WrittenThrough, WrittenSectorThrough}
-use Rattle.promises.specs.Fronts.{UpdatedThrough, RequestsAreVisits, RequestsAreRuns, FrontStaysGood, OneEnding}
+use Rattle.promises.specs.Fronts.{UpdatedThrough, RequestsAreVisits, RequestsAreRuns, FrontStaysGood, ReportsTold, OneEnding}
 use Rattle.promises.specs.FrontSteps.{FrontSteps}
 use Rattle.promises.specs.Private.{ReadByRight, ReadByRightThrough, NeverAByte, OnlyReadsHandOver, OldVolumes}
 use Rattle.promises.specs.BroughtUp.{StoredCounts, StoredCountsStay, BringUpExactly, AcceptedBringUp, SoundAlready}
+use Rattle.promises.specs.Compacting.{Fewest, OneStep, AcceptedCompact, SettledAgain, ReadsAlike}
 use Rattle.promises.specs.Conclusions.{NotAllRefused, NotAllDone, NotUnchanged, NotOnlyE, CheckCounts}
 use Rattle.promises.specs.Steps.{SmallVolume}
 use Rattle.promises.specs.Table.{TableDiffers}
@@ -119,6 +121,19 @@ pub record Demands : Type 0 where
   pub bring-up-exactly : BringUpExactly
   pub accepted-bring-up : AcceptedBringUp
   pub sound-already : SoundAlready
+  -- Close up the volume, a little at a time: "the fewest that give the same order"; "One step takes the highest-numbered data sector of any
+  -- sequential file and moves its bytes to the lowest free sector, if that one is lower"
+  pub fewest-segments : Fewest
+  pub one-step : OneStep
+  -- "A call takes a quota .. and answers the sectors moved within its quota, and why it ended"; "The number equals the steps of the
+  -- definition. Records, places and desk stay"; what is gained; "a further call moves 0"
+  pub accepted-compact : AcceptedCompact
+  pub settled-again : SettledAgain
+  -- "In demand 3 compaction may change where a logical sector lies, and nothing that any read returns"
+  pub contents-kept : ContentsKept
+  pub reads-alike : ReadsAlike
+  -- from C, "with count and reason"
+  pub reports-told : ReportsTold
   -- Each public call's statement settles answer, image, desk and buffer in all cases: at most one outcome satisfies it
   pub one-outcome : OneOutcome
   -- A program that refuses everything is shut out, and so is one that answers $00 to everything,

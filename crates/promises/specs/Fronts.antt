@@ -7,19 +7,22 @@ use Prim.Native.Nat.{ℕ, _+_, _*_, _/_, _<_, _≤_}
 use lib.Dec.{eqb}
 use lib.ListN.{length}
 use Rattle.lists.specs.Lists.{among}
-use Rattle.lists.specs.Parts.{byte, long, part, over}
+use Rattle.lists.specs.Parts.{byte, long, part, over, bytes2}
 use Rattle.volume.specs.Directory.{contiguous}
+use Rattle.compaction.specs.declared.Ending.{Ending}
 use Rattle.work.specs.declared.Refusal.the-variants.{NotSound}
 use Rattle.work.specs.Refusals.{_if_, ruled, code}
 use Rattle.work.specs.Transfers.{storedAs, handedAs}
 use Rattle.deskbytes.specs.DeskBytes.{deskSize, deskForm}
 use Rattle.desk.specs.Desk.{State, state, emptyDesk, fileOf, aimed}
 use Rattle.desk.specs.Answers.{Outcome, moved}
-use Rattle.desk.specs.Calls.{Call, Format, BringUp, rules, sent, step}
+use Rattle.desk.specs.Calls.{Call, Format, BringUp, Compact, rules, sent, step}
+use Rattle.desk.specs.declared.Answer.the-variants.{Done}
+use Rattle.desk.specs.declared.Report.the-variants.{Compacted}
 use Rattle.front.specs.Blocks.{blockSize, functionOf, optionsOf, lunIn, numberIn, startIn, endIn, selectorIn, formattedIn, isTransfer}
 use Rattle.front.specs.Areas.{namesShared, offset, area, partNamed}
 use Rattle.front.specs.Front.{packedDesk, unpackedDesk, Served, served, serve, serveFormat, serveCheck, serveBringUp, Lent, lent, Ended}
-use Rattle.front.specs.Front.{ended}
+use Rattle.front.specs.Front.{ended, reportSize, endingNumber, reportAfter}
 use Rattle.front.specs.Front.{frontRules, asked}
 use Rattle.front.specs.Front.{front}
 use Rattle.promises.specs.Answers.{statusTable}
@@ -240,6 +243,17 @@ FrontStaysGood =
     → Good (state (imageAfter (Formats id n ∷ rs) img bs) (unpackedDesk (bytesAfter (Formats id n ∷ rs) img bs)))
     × InOrder (imageAfter (Formats id n ∷ rs) img bs)
 
+-- "C header: the call, with count and reason": what compact leaves of its report
+pub record ReportTold (quota : ℕ) (img bs rep : List ℕ) : Type 0 where
+  pub if-done : (n : ℕ) (why : Ending) → deskForm bs ≡ true
+      → step (Compact quota) (state img (unpackedDesk bs)) .answer ≡ Done (Compacted n why) → length rep ≡ reportSize
+      → reportAfter quota img bs rep ≡ endingNumber why ∷ 0 ∷ bytes2 n
+  pub if-refused : serve (Compact quota) img bs .returned ≢ 0x00 → reportAfter quota img bs rep ≡ rep
+  pub if-other-length : length rep ≢ reportSize → reportAfter quota img bs rep ≡ rep
+
+abbrev pub ReportsTold : Type 0
+ReportsTold = (quota : ℕ) (img bs rep : List ℕ) → ReportTold quota img bs rep
+
 -- At most one outcome satisfies what each function for C ensures
 pub record OneEnding : Type 0 where
   pub of-blocks : (caller : ℕ) (l : Lent) (n n′ : ℕ) (m m′ : Lent) → ended n m ≡ front caller l → ended n′ m′ ≡ front caller l
@@ -250,4 +264,5 @@ pub record OneEnding : Type 0 where
       → served n′ a′ b′ ≡ serveFormat id dirs img bs → (n ≡ n′) × (a ≡ a′) × (b ≡ b′)
   pub of-bring-up : (img : List ℕ) (n n′ : ℕ) (a a′ : List ℕ) → served n a [] ≡ serveBringUp img [] → served n′ a′ [] ≡ serveBringUp img []
       → (n ≡ n′) × (a ≡ a′)
+  pub of-report : (quota : ℕ) (img bs rep a a′ : List ℕ) → a ≡ reportAfter quota img bs rep → a′ ≡ reportAfter quota img bs rep → a ≡ a′
   pub of-check : (img : List ℕ) (n n′ : ℕ) → n ≡ serveCheck img → n′ ≡ serveCheck img → n ≡ n′

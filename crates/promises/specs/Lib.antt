@@ -4,6 +4,7 @@ pub mod Runs
 pub mod Touches
 pub mod Answers
 pub mod Sectors
+pub mod Compacting
 pub mod Contents
 pub mod Lasting
 pub mod Texts

@@ -25,9 +25,15 @@ use Rattle.luns.specs.Luns.{luns-open}
 use Rattle.work.specs.Refusals.{refusals-open}
 use Rattle.work.specs.Volumes.{volumes-open}
 use Rattle.work.specs.Transfers.{transfers-open}
-use Rattle.desk.specs.Calls.{Call, Format, BringUp, Allocate, Assign, Rewind, Delete, Read, Write, Update, calls-open}
+use Rattle.moves.specs.Moves.{moves-open}
+use Rattle.compaction.specs.Compaction.{compaction-open}
+use Rattle.desk.specs.Calls.{Call, Format, BringUp, Compact, Allocate, Assign, Rewind, Delete, Read, Write, Update, calls-open}
 use Rattle.desk.specs.Answers.{Outcome, status, moved, answers-open}
 use Rattle.desk.specs.Desk.{state, State, emptyDesk, desk-open}
+use Rattle.desk.specs.declared.Answer.{Answer}
+use Rattle.desk.specs.declared.Answer.the-variants.{Done, Refused}
+use Rattle.desk.specs.declared.Report.the-variants.{Moved, Checked, Compacted}
+use Rattle.front.specs.Front.{endingNumber}
 use Rattle.promises.specs.Runs.{trace, next}
 
 -- a step: a call, and what is looked at in the image after it
@@ -38,11 +44,18 @@ pub record Step : Type 0 where
 abbrev pub calls : List Step → List Call
 calls = map (λ t. t .call)
 
--- of each call its status, its length, and what is looked at
+-- of a compaction the sectors moved, and why it ended by its number
+tally : Answer → List ℕ
+tally (Done (Moved n)) = []
+tally (Done (Checked s f)) = []
+tally (Done (Compacted n why)) = n ∷ endingNumber why ∷ []
+tally (Refused why) = []
+
+-- of each call its status, its length, its tally, and what is looked at
 shown : List Step → List Outcome → List (List ℕ)
 shown [] os = []
 shown (t ∷ ts) [] = []
-shown (t ∷ ts) (o ∷ os) = (status (o .answer) ∷ moved (o .answer) ∷ t .look (o .image)) ∷ shown ts os
+shown (t ∷ ts) (o ∷ os) = (status (o .answer) ∷ moved (o .answer) ∷ (tally (o .answer) ++ t .look (o .image))) ∷ shown ts os
 
 followed : List Step → State → List (List ℕ)
 followed ts s = shown ts (trace (calls ts) s)
@@ -161,8 +174,21 @@ ending [] = blank
 ending (o ∷ []) = state (o .image) (o .desk)
 ending (o ∷ p ∷ os) = ending (p ∷ os)
 
+-- 15, asked of the volume after step 6, the story's eighth call: the volume is closed up, and the 8 sectors that were refused are there
+closingUp : List Step
+closingUp =
+    record { call = Compact 0; look = λ img. segments 1 img ++ sat2 img }
+    ∷ record { call = Compact 1; look = λ img. segments 1 img ++ (sat2 img ++ (second 1 img ∷ free img ∷ [])) }
+    ∷ record { call = Compact 2048; look = λ img. [] }
+    ∷ record { call = Compact 2049; look = λ img. [] }
+    ∷ record { call = Allocate 5 (desc 88) 0 8 0 0; look = λ img. at 0 img ∷ [] }
+    ∷ []
+
+closedAfter : List Outcome → List (List ℕ)
+closedAfter os = followed closingUp (ending (take 8 os))
+
 told : List Outcome → List (List ℕ)
-told os = shown story os ++ renewed (ending os)
+told os = shown story os ++ (renewed (ending os) ++ closedAfter os)
 
 -- 9 asks the modes alone
 pub steps : List (List ℕ)
@@ -218,6 +244,14 @@ settled =
     ∷ (0 ∷ 0 ∷ 1 ∷ 0 ∷ 0 ∷ 0 ∷ 3 ∷ [])
     ∷ (0x6F ∷ 0 ∷ 1 ∷ [])
     ∷ (0 ∷ 0 ∷ [])
+    -- 15: with quota 0 nothing is moved, and the quota is used; with quota 1 sector 7 goes to sector 4, and the volume is settled, though
+    -- the quota is used too: segments (4,1),(3,1), 9 free as before; then nothing is left to move; 2,049 is out of range; 8 sectors start
+    -- at 7
+    ∷ (0 ∷ 0 ∷ 0 ∷ 2 ∷ 0 ∷ 7 ∷ 0 ∷ 1 ∷ 0 ∷ 3 ∷ 0 ∷ 1 ∷ 0xF3 ∷ 0x01 ∷ 1 ∷ [])
+    ∷ (0 ∷ 0 ∷ 1 ∷ 1 ∷ 0 ∷ 4 ∷ 0 ∷ 1 ∷ 0 ∷ 3 ∷ 0 ∷ 1 ∷ 0xFA ∷ 0x01 ∷ 1 ∷ 3 ∷ 9 ∷ [])
+    ∷ (0 ∷ 0 ∷ 0 ∷ 1 ∷ [])
+    ∷ (0x60 ∷ 0 ∷ [])
+    ∷ (0 ∷ 0 ∷ 7 ∷ [])
     -- 9: PR and EW are compatible, PR and ER are not
     ∷ (1 ∷ [])
     ∷ (0 ∷ [])
@@ -229,11 +263,12 @@ SmallVolume = steps ≡ settled
 -- for a proof that computes: opens every definition of the service
 unfoldable pub service-open : Unit {0}
 unfolding lists-open parts-open packing-open names-open volume-open directory-open blocks-open owners-open sat-open formatted-open
-    rights-open records-open files-open streams-open changes-open modes-open luns-open refusals-open volumes-open transfers-open
+    rights-open records-open files-open streams-open changes-open moves-open compaction-open
+    modes-open luns-open refusals-open volumes-open transfers-open
     desk-open answers-open calls-open
 service-open = tt
 
 pub small-volume : SmallVolume
 unfolding steps settled story blank followed shown trace next descOf desc sat2 countBytes codeBytes at bytesIn segments second added
-    asBefore renewal renewed ending told service-open
+    asBefore renewal renewed ending closingUp closedAfter tally told service-open
 small-volume = refl

@@ -14,6 +14,15 @@ changes RecordCounts k = true
 changes WhereFilesLie k = true
 changes Everything k = true
 
+-- whether the bytes of the file in slot k may change; its record count may, and where it lies may, all the same
+unfoldable pub rewrites : Touch → ℕ → Bool
+rewrites Nothing k = false
+rewrites (OneFile j) k = eqb j k
+rewrites (Units j i n) k = eqb j k
+rewrites RecordCounts k = false
+rewrites WhereFilesLie k = false
+rewrites Everything k = true
+
 -- whether what unit u of slot k held may end: its record, or the bytes of its sector. (The unit that a sequential write touches is the
 -- new record, whose number is the record count: no record that is there ends by it.)
 unfoldable pub ends : Touch → ℕ → ℕ → Bool

@@ -10,6 +10,7 @@ pub(crate) fn change(d: Desk, image: &mut [u8], call: Call, data: &[u8]) -> Repl
     match command {
         script::FORMAT => d.format(image, data, call.two),
         script::BRING_UP => d.bring_up(image),
+        script::COMPACT => d.compact(image, call.one),
         script::ALLOCATE => d.allocate(
             image,
             call.one,

@@ -1,10 +1,13 @@
-// The desk as it is printed.
+// The desk and the volume as they are printed.
 use crate::print::Text;
+use crate::print::within;
 use desk::Desk;
 use deskbytes::DESK_BYTES;
 use luns::Lun;
 use luns::Place;
 use numbers::LUNS;
+use numbers::MOST_SECTORS;
+use picture::draw;
 
 fn place(t: Text, p: Place) -> Text {
     match p {
@@ -47,4 +50,30 @@ pub(crate) fn packed(d: Desk) -> [u8; DESK_BYTES] {
     let mut bytes = [0u8; DESK_BYTES];
     deskbytes::pack(luns, &mut bytes);
     bytes
+}
+
+// Sectors of a row.
+const ROW: usize = 64;
+
+// The letters in rows. The end of the last row is the printed line's own.
+fn rows(letters: &[u8]) -> Text {
+    let mut t = Text::empty();
+    let mut from = 0;
+    while ROW < letters.len() - from {
+        let to = from + ROW;
+        t = t.add(&letters[from..to], b'\n');
+        from = to;
+    }
+    t.add(&letters[from..], b'\n')
+}
+
+/// The volume, a letter a sector; of one that is not sound only that.
+pub(crate) fn map(image: &[u8]) -> Text {
+    let mut letters = [0u8; MOST_SECTORS];
+    let drawn = draw(image, &mut letters);
+    if drawn == 0 {
+        return Text::empty().word(b"6F").number(0);
+    }
+    let n = within(drawn, &letters);
+    rows(&letters[..n])
 }

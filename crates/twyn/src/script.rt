@@ -12,45 +12,49 @@ pub(crate) const FORMAT: usize = 2;
 
 pub(crate) const BRING_UP: usize = 3;
 
-pub(crate) const ALLOCATE: usize = 4;
+pub(crate) const COMPACT: usize = 4;
 
-pub(crate) const DELETE: usize = 5;
+pub(crate) const ALLOCATE: usize = 5;
 
-pub(crate) const WRITE: usize = 6;
+pub(crate) const DELETE: usize = 6;
 
-pub(crate) const WRITE_TEXT: usize = 7;
+pub(crate) const WRITE: usize = 7;
 
-pub(crate) const UPDATE: usize = 8;
+pub(crate) const WRITE_TEXT: usize = 8;
 
-pub(crate) const UPDATE_TEXT: usize = 9;
+pub(crate) const UPDATE: usize = 9;
 
-pub(crate) const IOCB: usize = 10;
+pub(crate) const UPDATE_TEXT: usize = 10;
 
-pub(crate) const IOCB_WITH: usize = 11;
+pub(crate) const IOCB: usize = 11;
 
-pub(crate) const CHECK: usize = 12;
+pub(crate) const IOCB_WITH: usize = 12;
 
-pub(crate) const ASSIGN: usize = 13;
+pub(crate) const CHECK: usize = 13;
 
-pub(crate) const CLOSE: usize = 14;
+pub(crate) const ASSIGN: usize = 14;
 
-pub(crate) const REWIND: usize = 15;
+pub(crate) const CLOSE: usize = 15;
 
-pub(crate) const READ: usize = 16;
+pub(crate) const REWIND: usize = 16;
 
-pub(crate) const READ_TEXT: usize = 17;
+pub(crate) const READ: usize = 17;
 
-pub(crate) const SECTOR: usize = 18;
+pub(crate) const READ_TEXT: usize = 18;
 
-pub(crate) const DESK: usize = 19;
+pub(crate) const SECTOR: usize = 19;
 
-pub(crate) const DESK_BYTES: usize = 20;
+pub(crate) const DESK: usize = 20;
 
-pub(crate) const SUM: usize = 21;
+pub(crate) const DESK_BYTES: usize = 21;
 
-pub(crate) const UNREADABLE: usize = 22;
+pub(crate) const SUM: usize = 22;
 
-pub(crate) const NOTHING: usize = 23;
+pub(crate) const MAP: usize = 23;
+
+pub(crate) const UNREADABLE: usize = 24;
+
+pub(crate) const NOTHING: usize = 25;
 
 /// What a request lends beside the image: its block, the task's own area and the shared segment.
 pub(crate) struct Lent {
@@ -78,8 +82,8 @@ pub(crate) struct Call {
 // Which command the word names.
 fn named(word: &[u8]) -> usize {
     let names =
-        b"new poke format bring-up allocate delete write write-text update update-text iocb iocb-with check \
-          assign close rewind read read-text sector desk desk-bytes sum";
+        b"new poke format bring-up compact allocate delete write write-text update update-text iocb iocb-with check \
+          assign close rewind read read-text sector desk desk-bytes sum map";
     let mut k = 0;
     while k < UNREADABLE {
         if same_bytes(word, words::word(names, k)) {
@@ -94,8 +98,8 @@ fn named(word: &[u8]) -> usize {
 fn words_of(command: usize) -> usize {
     match command {
         UNREADABLE => 0,
-        BRING_UP | CHECK | DESK | DESK_BYTES | SUM => 1,
-        NEW | SECTOR => 2,
+        BRING_UP | CHECK | DESK | DESK_BYTES | SUM | MAP => 1,
+        NEW | COMPACT | SECTOR => 2,
         POKE | FORMAT | DELETE | CLOSE | REWIND => 3,
         IOCB => 5,
         ALLOCATE | ASSIGN => 7,

@@ -195,6 +195,7 @@ fn shown(image: &[u8], t: Text, d: Desk, command: usize, number: u32) -> Text {
         script::DESK => listing::desk(d),
         script::DESK_BYTES => Text::empty().hex(&listing::packed(d)),
         script::SUM => sum(image),
+        script::MAP => listing::map(image),
         _ => t,
     }
 }

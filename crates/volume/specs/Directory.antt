@@ -3,11 +3,11 @@ use mathlib.Core.List.{List, [], _∷_, _++_}
 use mathlib.Core.Bool.{Bool, not, true}
 use mathlib.Core.Path.{_≡_}
 use Prim.Native.Nat.{ℕ, _*_, _+_}
-use lib.ListN.{getD}
+use lib.ListN.{getD, length}
 use lib.Dec.{eqb, leb}
 use Rattle.numbers.specs.Numbers.{recordLimit}
 use Rattle.lists.specs.Parts.{part, zeros, byte, word, long, bytes2, bytes4, put}
-use Rattle.lists.specs.Lists.{pieces, _and_, if_then_else_, same, all, _or_}
+use Rattle.lists.specs.Lists.{pieces, kept, _and_, if_then_else_, same, all, _or_}
 use Rattle.volume.specs.Volume.{dirAt, dirs}
 use Rattle.volume.specs.Names.{descriptor}
 
@@ -21,6 +21,10 @@ entryAt img k = getD (entries img) k []
 -- RULES, The directory: an entry of 32 zeros is unused
 abbrev pub unused : List ℕ → Bool
 unused = zeros
+
+-- the files that a volume has: its entries in use
+unfoldable pub filesIn : List ℕ → ℕ
+filesIn img = length (kept (λ e. not (unused e)) (entries img))
 
 -- RULES, The directory: byte 1 is the type, bytes 2-3 are the owner, bytes 2-21 the descriptor
 abbrev pub kind : List ℕ → ℕ
@@ -124,5 +128,5 @@ pub record SameButCount (e e′ : List ℕ) : Type 0 where
   pub contiguous-same : contiguous e ≡ true → e′ ≡ e
 
 unfoldable pub directory-open : Unit {0}
-unfolding entries entryAt contiguous described entry withCount countedAs codeAllowed valid named clashes namesDiffer sound2 putEntry
+unfolding entries entryAt filesIn contiguous described entry withCount countedAs codeAllowed valid named clashes namesDiffer sound2 putEntry
 directory-open = tt

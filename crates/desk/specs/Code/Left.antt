@@ -1,23 +1,25 @@
--- What is left of assign and delete once their first rules have passed, for the functions that carry them on: the parts of their rules
--- that are left, and their change.
+-- What is left of assign, delete and compact once their first rules have passed, for the functions that carry them on: the parts of their
+-- rules that are left, and their change.
 use mathlib.Core.Path.{_≡_}
 use mathlib.Core.Bool.{true, Bool}
 use mathlib.Core.List.{[], List, _++_, _∷_}
 use Prim.Native.Nat.{ℕ}
 use lib.Dec.{ltb}
+use Rattle.numbers.specs.Numbers.{mostQuota}
 use Rattle.volume.specs.Names.{userOf}
 use Rattle.volume.specs.Code.Located.{Located}
 use Rattle.volume.specs.declared.locate.Layout.{Layout}
 use Rattle.files.specs.Changes.{deleted}
+use Rattle.compaction.specs.Compaction.{compacted}
 use Rattle.luns.specs.declared.Lun.{Lun}
 use Rattle.luns.specs.declared.Mode.{Mode}
 use Rattle.luns.specs.Modes.{modeOf}
 use Rattle.work.specs.Volumes.{namedRules, slotOf}
-use Rattle.work.specs.declared.Refusal.the-variants.{UnknownType}
+use Rattle.work.specs.declared.Refusal.the-variants.{UnknownType, OutOfRange}
 use Rattle.work.specs.Refusals.{_if_}
 use Rattle.desk.specs.Desk.{State, ready, putLun}
 use Rattle.desk.specs.Answers.{Outcome, judged}
-use Rattle.desk.specs.Calls.{seatRules, quietly, seatOf, removeRules}
+use Rattle.desk.specs.Calls.{seatRules, quietly, seatOf, removeRules, closedUpTo}
 
 -- a sound volume that the desk fits, and its layout
 pub record Begins (s : State) (p : Layout) : Type 0 where
@@ -50,3 +52,7 @@ deleteLeft s caller desc =
     judged
     (namedRules (s .image) desc ++ removeRules (s .desk) caller (userOf desc) k)
     s [] (quietly (deleted k (s .image)) (s .desk))
+
+-- Compact
+unfoldable pub closeLeft : State → ℕ → Outcome
+closeLeft s n = judged (OutOfRange if ltb mostQuota n ∷ []) s [] (closedUpTo s (compacted n (s .image)))

@@ -52,12 +52,13 @@ pub first-all : (f : List ℕ) → firstOf f (segments f) ≡ sectorsOf f
 unfolding firstOf sectorsOf
 first-all f = let l : length (pairs f) ≤ segments f = omega (arith, pairs-length f) in rw (take-all (segments f) (pairs f) l)
 
-first-short : (f : List ℕ) (k : ℕ) → length (firstOf f k) ≤ length (sectorsOf f)
+-- and then those of the others
+pub first-rest : (f : List ℕ) (k : ℕ) → sectorsOf f ≡ firstOf f k ++ flat segment (drop k (pairs f))
 unfolding firstOf sectorsOf
-first-short f k =
-    let e : flat segment (pairs f) ≡ flat segment (take k (pairs f)) ++ flat segment (drop k (pairs f)) =
-    ap (flat segment) (sym (take-append-drop k (pairs f))) ∙ flat-append segment (take k (pairs f)) (drop k (pairs f)) in
-    omega (arith, simp length-append at (ap length e))
+first-rest f k = ap (flat segment) (sym (take-append-drop k (pairs f))) ∙ flat-append segment (take k (pairs f)) (drop k (pairs f))
+
+first-short : (f : List ℕ) (k : ℕ) → length (firstOf f k) ≤ length (sectorsOf f)
+first-short f k = omega (arith, simp length-append at (ap length (first-rest f k)))
 
 -- what a sound block says of its segments, and of how many sectors they are
 module _ (t : ℕ) (f : List ℕ) (h : blockSound t f ≡ true) where

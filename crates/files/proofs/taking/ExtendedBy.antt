@@ -17,14 +17,10 @@ use Rattle.ownership.specs.Blocks.{extended, extendedBy, segStart, segLength, t
 use Rattle.ownership.specs.Code.Shapes.{follows, lengthened, pair, lastPair, fours, Extends}
 use Rattle.ownership.proofs.Segments.{length-extendedBy, segStart-pair, segLength-pair, extended-cases, lastPair-cons, extended-on, extended-new, fours-extendedBy}
 use Rattle.ownership.proofs.Segments.{sound-extendedBy, lastPair-short, length-lengthened}
+use Rattle.ownership.proofs.SegmentRuns.{extendedBy-append}
 use Rattle.ownership.proofs.AccessBlocks.{pairs-blockOf, total-blockOf, streamLength-blockOf, shaped-blockOf, fours-pairs, block-is}
 use Rattle.files.specs.Code.Growing.{nextAfter, Grows}
 use Rattle.files.proofs.taking.LowestFree.{all-take}
-
-extendedBy-append : (ps : List (List ℕ)) (a b : List ℕ) → extendedBy ps (a ++ b) ≡ extendedBy (extendedBy ps a) b
-unfolding extendedBy
-extendedBy-append ps [] b = refl
-extendedBy-append ps (s ∷ a) b = extendedBy-append (extended ps s) a b
 
 pub extendedBy-none : (ps : List (List ℕ)) (ss : List ℕ) → extendedBy ps (take 0 ss) ≡ ps
 unfolding extendedBy
@@ -47,7 +43,7 @@ follows-next [] s h = sym (ne-eqb 65536 s (λ q. omega arith))
 follows-next (p ∷ []) s h = refl
 follows-next (p ∷ q ∷ ps) s h = follows-next (q ∷ ps) s h
 
-next-lengthened : (ps : List (List ℕ)) (s : ℕ) → follows ps s ≡ true → nextAfter (lengthened ps) ≡ s + 1
+next-lengthened : (ps : List (List ℕ)) (s : ℕ) → follows ps s ≡ true → nextAfter (lengthened ps 1) ≡ s + 1
 unfolding follows lengthened nextAfter
 next-lengthened [] s h = absurd (let z : _≡_ {A = ℕ} 0 1 = cc in omega arith)
 next-lengthened (p ∷ []) s h =
@@ -76,7 +72,7 @@ pub length-by-next : (ps : List (List ℕ)) (s : ℕ) → s < 65536 → length (
 length-by-next ps s h = go (follows ps s) refl
   where
     go : (b : Bool) → follows ps s ≡ b → length (extended ps s) ≡ (if eqb (nextAfter ps) s then length ps else length ps + 1)
-    go true e = rw (← follows-next ps s h, e) (ap length (extended-on ps s e) ∙ length-lengthened ps)
+    go true e = rw (← follows-next ps s h, e) (ap length (extended-on ps s e) ∙ length-lengthened ps 1)
     go false e = rw (← follows-next ps s h, e) (ap length (extended-new ps s e) ∙ length-append ps (pair s 1 ∷ []))
 
 -- the block on the way

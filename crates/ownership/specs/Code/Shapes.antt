@@ -4,11 +4,12 @@ use mathlib.Core.List.{List, [], _++_, _∷_, map}
 use mathlib.Core.Path.{_≡_}
 use Prim.Native.Nat.{ℕ, _+_, _*_, _≤_, _-_, _<_}
 use lib.ListN.{length, drop, getD}
-use lib.Dec.{eqb}
+use lib.Dec.{eqb, leb}
 use Rattle.numbers.specs.Numbers.{mostSegments}
 use Rattle.lists.specs.Lists.{all, _and_, sum}
 use Rattle.lists.specs.Parts.{zeros, bytes2}
-use Rattle.ownership.specs.Blocks.{segments, total, streamLength, segStart, segLength, pairs, extended, blockOf, segmentSound}
+use Rattle.ownership.specs.Blocks.{segments, total, streamLength, segStart, segLength, pairs, extended, extendedBy, blockOf}
+use Rattle.ownership.specs.Blocks.{segmentSound}
 
 -- pairs of words are four bytes each
 unfoldable pub fours : List (List ℕ) → Bool
@@ -51,11 +52,11 @@ follows [] s = false
 follows (p ∷ []) s = eqb (segStart p + segLength p) s
 follows (p ∷ q ∷ ps) s = follows (q ∷ ps) s
 
--- the last pair's segment one sector longer
-unfoldable pub lengthened : List (List ℕ) → List (List ℕ)
-lengthened [] = []
-lengthened (p ∷ []) = pair (segStart p) (segLength p + 1) ∷ []
-lengthened (p ∷ q ∷ ps) = p ∷ lengthened (q ∷ ps)
+-- the last pair's segment n sectors longer
+unfoldable pub lengthened : List (List ℕ) → ℕ → List (List ℕ)
+lengthened [] n = []
+lengthened (p ∷ []) n = pair (segStart p) (segLength p + n) ∷ []
+lengthened (p ∷ q ∷ ps) n = p ∷ lengthened (q ∷ ps) n
 
 -- a well-formed block that sector s can join
 pub record Extends (f : List ℕ) (s : ℕ) : Type 0 where
@@ -63,3 +64,14 @@ pub record Extends (f : List ℕ) (s : ℕ) : Type 0 where
   pub room : length (extended (pairs f) s) ≤ mostSegments
   pub short : segLength (lastPair (pairs f)) < 65535
   pub number : s < 65536
+
+-- a well-formed block whose words can hold a run of n sectors from s on
+pub record ExtendsRun (f : List ℕ) (s n : ℕ) : Type 0 where
+  pub shaped : BlockShaped f
+  pub short : segLength (lastPair (pairs f)) + n < 65536
+  pub number : s + n ≤ 65536
+
+-- an answer r and a block f′ after these sectors were to join the block f: whether 62 segments are enough, and if so the block with them
+pub record Extended (f ss : List ℕ) (r : Bool) (f′ : List ℕ) : Type 0 where
+  pub answer : r ≡ leb (length (extendedBy (pairs f) ss)) mostSegments
+  pub made : r ≡ true → f′ ≡ withPairs f (extendedBy (pairs f) ss)

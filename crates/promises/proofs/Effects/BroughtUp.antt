@@ -153,13 +153,16 @@ module _ (s : State) (b : soundBefore (s .image) ≡ true) where
     entries-same = each-entry;
     files-same = λ k f.
         let same = recounted-file v v′ F R k (f .slot) (f .used) in
-        let alike : SameButCount (entryAt v k) (entryAt v′ k) = R .each k (f .slot) in
-        record {
-          block-same = λ q. block-alike (entryAt v k) (entryAt v′ k) alike v′ ∙ same .block-same (f .used) q;
-          places-same = logical-alike (entryAt v k) (entryAt v′ k) alike v′ ∙ same .logical-same;
-          bytes-same = stored-alike (entryAt v k) (entryAt v′ k) alike v′ ∙ same .stored-same;
-          records-same = recounted-records v v′ F R k (f .slot) (f .used);
-        };
+        let alike : SameButCount (entryAt v k) (entryAt v′ k) = R .each k (f .slot) in (
+          record {
+            bytes-same = stored-alike (entryAt v k) (entryAt v′ k) alike v′ ∙ same .stored-same;
+            records-same = recounted-records v v′ F R k (f .slot) (f .used);
+          },
+          record {
+            block-same = λ q. block-alike (entryAt v k) (entryAt v′ k) alike v′ ∙ same .block-same (f .used) q;
+            sectors-same = logical-alike (entryAt v k) (entryAt v′ k) alike v′ ∙ same .logical-same;
+          },
+        );
     as-many-free = up-free;
     desk-kept = refl;
     still-fits = λ h. fits-is v′ (s .desk .luns) (up-fitting (s .desk .luns) (fitting v (s .desk .luns) h));

@@ -10,7 +10,8 @@ use Rattle.lists.specs.Parts.{over}
 use Rattle.work.specs.Transfers.{moving, writing, updating}
 use Rattle.desk.specs.Desk.{State}
 use Rattle.desk.specs.Answers.{Outcome}
-use Rattle.desk.specs.Calls.{Call, Format, Check, BringUp, Allocate, Assign, Close, Rewind, Delete, Read, Write, Update, given, done, quietly, checked, transferred, step}
+use Rattle.desk.specs.Calls.{Call, Format, Check, BringUp, Compact, Allocate, Assign, Close, Rewind, Delete, Read, Write, Update, given, done, quietly, checked, closedUpTo}
+use Rattle.desk.specs.Calls.{transferred, step}
 use Rattle.promises.specs.Private.{OnlyReadsHandOver}
 use Rattle.promises.proofs.Passing.{refused-or-accepted, accepts-it}
 use Rattle.promises.proofs.Reading.{accepted-read}
@@ -21,10 +22,11 @@ data Buffered (c : Call) (s : State) : Type 0 where
   is-read : (caller lun sel num : ℕ) (fmt : Bool) (buf : List ℕ) → c ≡ Read caller lun sel num fmt buf → Buffered c s
 
 buffered : (c : Call) (s : State) → Buffered c s
-unfolding done given quietly checked transferred writing updating moving
+unfolding done given quietly checked closedUpTo transferred writing updating moving
 buffered (Format id n) s = stays refl
 buffered Check s = stays refl
 buffered BringUp s = stays refl
+buffered (Compact n) s = stays refl
 buffered (Allocate caller desc k n l rc) s = stays refl
 buffered (Assign caller lun desc mode end offered) s = stays refl
 buffered (Close caller lun) s = stays refl

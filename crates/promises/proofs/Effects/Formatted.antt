@@ -11,7 +11,7 @@ use Rattle.volume.specs.Sat.{isFree}
 use Rattle.files.proofs.SoundFacts.{facts}
 use Rattle.keeping.proofs.FormatSound.{format-sectors, format-system, format-length, format-unused, format-owned, format-id, format-sound}
 use Rattle.keeping.proofs.FreeCounts.{format-free}
-use Rattle.keeping.proofs.FreedSectors.{free-is}
+use Rattle.files.proofs.Kept.FreeAndOwned.{free-is}
 use Rattle.desk.specs.Desk.{State}
 use Rattle.desk.specs.Calls.{Format, done, quietly}
 use Rattle.promises.specs.Filing.{Formats, AcceptedFormat}

@@ -173,5 +173,6 @@ one-ending = record {
   of-calls = λ c img bs. same-served (serve c img bs);
   of-format = λ id dirs img bs. same-served (serveFormat id dirs img bs);
   of-bring-up = λ img n n′ a a′ e f. let q = same-served (serveBringUp img []) n n′ a a′ [] [] e f in (q .0, q .1);
+  of-report = λ quota img bs rep a a′ e f. e ∙ sym f;
   of-check = λ img n n′ e f. e ∙ sym f;
 }

@@ -29,7 +29,8 @@ use Rattle.work.specs.Transfers.{storedAs, moving, reading, writing, updating, 
 use Rattle.work.proofs.TextRules.{stored-units}
 use Rattle.desk.specs.declared.Desk.{Desk}
 use Rattle.desk.specs.Desk.{State, state, emptyDesk, lunAt, putLun, ready, mine, fileOf, aimed}
-use Rattle.desk.specs.Calls.{Call, Format, Check, BringUp, Allocate, Assign, Close, Rewind, Delete, Read, Write, Update, quietly, checked, after, transferred, done, seatOf, newLun}
+use Rattle.desk.specs.Calls.{Call, Format, Check, BringUp, Compact, Allocate, Assign, Close, Rewind, Delete, Read, Write, Update, quietly, checked, closedUpTo, after}
+use Rattle.desk.specs.Calls.{transferred, done, seatOf, newLun}
 use Rattle.desk.specs.Calls.{sent}
 use Rattle.desk.specs.Calls.{step}
 use Rattle.desk.proofs.Bounds.{extent-small}
@@ -194,10 +195,11 @@ plain-updated caller lun sel num fmt bs ss s T h =
 
 -- any accepted call; any call; any calls
 plain-done : (c : Call) (s : State) → Accepted c s → Bytes (sent c) → PlainDesk (s .desk) → PlainDesk (done c s .desk)
-unfolding done sent quietly checked transferred
+unfolding done sent quietly checked closedUpTo transferred
 plain-done (Format id n) s a b h = plain-empty
 plain-done Check s a b h = h
 plain-done BringUp s a b h = h
+plain-done (Compact n) s a b h = h
 plain-done (Allocate caller desc k n l rc) s a b h = h
 plain-done (Assign caller lun desc mode end offered) s a b h = plain-assigned caller lun desc mode end offered s (assign-told caller lun desc mode end offered s a) (b 0) h
 plain-done (Close caller lun) s a b h = plain-put (s .desk) lun freeLun h free-plain

@@ -24,7 +24,8 @@ use Rattle.work.specs.Volumes.{slotOf}
 use Rattle.desk.specs.declared.Desk.{Desk}
 use Rattle.desk.specs.Desk.{State, state, emptyDesk, lunAt, putLun, fileOf}
 use Rattle.desk.specs.Answers.{accepts}
-use Rattle.desk.specs.Calls.{Units, Call, Format, Check, BringUp, Allocate, Assign, Close, Rewind, Delete, Read, Write, Update, touch, done, quietly, checked, transferred, after}
+use Rattle.desk.specs.Calls.{Units, Call, Format, Check, BringUp, Compact, Allocate, Assign, Close, Rewind, Delete, Read, Write, Update, touch, done, quietly, checked}
+use Rattle.desk.specs.Calls.{closedUpTo, transferred, after}
 use Rattle.desk.specs.Calls.{newLun, seatOf, step}
 use Rattle.desk.proofs.DeskFitting.{lun-fits}
 use Rattle.promises.specs.Runs.{next}
@@ -34,6 +35,8 @@ use Rattle.promises.specs.Contents.{slotHeld}
 use Rattle.promises.proofs.Passing.{Accepted, refused-or-accepted, next-refused, next-accepted, carriedTo, accepts-it}
 use Rattle.promises.proofs.Told.{assign-told, delete-told}
 use Rattle.promises.proofs.Held.{entryOf}
+use Rattle.moves.proofs.Rearranged.{entry-same}
+use Rattle.compaction.proofs.StepsRearrange.{compacted-rearranged}
 use Rattle.promises.proofs.OneLun.{empty-lun}
 use Rattle.promises.proofs.NamedFile.{file-named}
 use Rattle.promises.proofs.Preserved.{other-files-kept}
@@ -187,12 +190,15 @@ module _ (s : State) (g : Good s) (j : ℕ) where
       (lun-put (s .desk) lun j u)
 
   seat-carried : (c : Call) → Accepted c s → lunAt (done c s .desk) j .held ≡ true → (SameSeat s (carriedTo c s) j) ⊎ (NewSeat c s (carriedTo c s) j)
-  unfolding done quietly checked transferred after touch changes
+  unfolding done quietly checked closedUpTo transferred after touch changes
   seat-carried (Format id n) a h = absurd (true≢false (sym h ∙ empty-free j))
   seat-carried Check a h = inl (kept-seat s (s .image) (s .desk) j (alike (s .desk) (s .desk) j refl) h (λ x. alike-refl (entryOf s j)))
   seat-carried BringUp a h =
       let same = ap (λ (v : List ℕ). entryAt v (slotHeld s j)) (up-stays s (g .volume .is-sound) a) in
       inl (kept-seat s (done BringUp s .image) (s .desk) j (alike (s .desk) (s .desk) j refl) h (λ x. alike-entry _ _ same))
+  seat-carried (Compact n) a h =
+      let R = compacted-rearranged n (s .image) (g .volume .is-sound) in
+      inl (kept-seat s (done (Compact n) s .image) (s .desk) j (alike (s .desk) (s .desk) j refl) h (λ x. alike-entry _ _ (entry-same _ _ R (slotHeld s j))))
   seat-carried (Allocate caller desc k n l rc) a h =
       let c : Call = Allocate caller desc k n l rc in
       inl (kept-seat s (done c s .image) (s .desk) j (alike (s .desk) (s .desk) j refl) h (left-as c a (λ x. untouched s g j x c refl)))

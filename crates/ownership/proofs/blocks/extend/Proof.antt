@@ -1,4 +1,5 @@
 use mathlib.Core.Path.{sym, _∙_}
+use native.Mathlib.Omega.{arith}
 use borrow.Author.Needs.{needs}
 use Rattle.ownership.proofs.BlockWriters.{joins-some, room-new}
 use Rattle.ownership.proofs.Segments.{extended-on, extended-new}
@@ -12,7 +13,7 @@ lengthen-requires : tie.Need-lengthen-requires
 lengthen-requires c κs =
     let before = c .before .before .before .before .before in
     let s = before in
-    (s .pre .shaped, joins-some _ (s .pre .shaped) _ (sym (c .before .before .joins .ensures) ∙ c .before .if1 .taken), s .pre .short)
+    (s .pre .shaped, joins-some _ (s .pre .shaped) _ (sym (c .before .before .joins .ensures) ∙ c .before .if1 .taken), omega (arith, s .pre .short))
 
 same-length : tie.Need-same-length
 same-length c = search needs
@@ -27,7 +28,7 @@ open-segment-requires : tie.Need-open-segment-requires
 open-segment-requires c κs =
     let before = c .before .before .before .before .before in
     let s = before in
-    (s .pre .shaped, room-new _ (s .pre .shaped) _ (sym (c .before .before .joins .ensures) ∙ c .before .if1 .left) (s .pre .room), s .pre .number)
+    (s .pre .shaped, room-new _ (s .pre .shaped) _ (sym (c .before .before .joins .ensures) ∙ c .before .if1 .left) (s .pre .room), s .pre .number, omega arith)
 
 same-length-2 : tie.Need-same-length-2
 same-length-2 c = search needs

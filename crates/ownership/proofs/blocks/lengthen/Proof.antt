@@ -41,7 +41,7 @@ returns c =
     let segments = c .before .before .before .before .before .before .segments in
     let word-at = c .before .before .before .before .word-at in
     let s = before in
-    wrote-longer _ (s .pre .0) (λ i. slice-known .given i .fits) _ _ _
+    wrote-longer _ (s .pre .0) (λ i. slice-known .given i .fits) _ _ _ _
     (segments .ensures .0) (s .pre .1) (word-at .ensures .0)
     (c .before .before .put-word .ensures)
 

@@ -37,7 +37,7 @@ returns c =
     let put-word2 = c .before .before .before .before .before .before .put-word2 in
     let far = before in
     let s = far .before .before .before .before .before in
-    wrote-new _ (s .pre .0) (λ i. far .before .before .before .before .slice-known .given i .fits) _ _ _ (far .before .before .segments .ensures .0) (s .pre .1)
+    wrote-new _ (s .pre .0) (λ i. far .before .before .before .before .slice-known .given i .fits) _ _ _ _ (far .before .before .segments .ensures .0) (s .pre .1)
     (c .before .before .put-word3 .ensures ∙ rw (put-word2 .ensures, far .put-word .ensures))
 
 pub open-segment-spec : {M : Type 1} → statement M

@@ -4,10 +4,10 @@ use Rattle.twyn.proofs.script.named.Statement.{statement}
 use Rattle.twyn.proofs.script.named.Tie as tie
 
 abbrev Inv-loop : tie.InvT-loop
-Inv-loop word names k₀ k = k ≤ 22
+Inv-loop word names k₀ k = k ≤ 24
 
 abbrev μ-loop : tie.MeasureT-loop
-μ-loop word names k₀ k = 22 - k
+μ-loop word names k₀ k = 24 - k
 
 loop-holds : tie.Need-loop-holds Inv-loop μ-loop
 loop-holds c = search needs

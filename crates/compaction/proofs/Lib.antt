@@ -1,0 +1,5 @@
+pub mod ClosedUp
+pub mod DataSectors
+pub mod Quota
+pub mod Stepped
+pub mod StepsRearrange

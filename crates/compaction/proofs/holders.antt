@@ -1,0 +1,2 @@
+pub mod HolderTable
+pub mod SectorNumber

@@ -1,0 +1,3 @@
+pub mod Compaction
+pub mod Steps
+pub mod Code

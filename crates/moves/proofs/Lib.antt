@@ -1,0 +1,4 @@
+pub mod Rearranged
+pub mod Relocated
+pub mod RelocatedSound
+pub mod ReroutedBlock

@@ -1,0 +1,2 @@
+pub mod NewBlock
+pub mod RunsPushed
