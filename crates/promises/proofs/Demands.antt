@@ -36,7 +36,7 @@ use Rattle.promises.proofs.Fronts.ReadsThrough.{read-by-right-through}
 use Rattle.promises.proofs.Effects.BroughtUp.{bring-up-exactly, accepted-bring-up, sound-already}
 use Rattle.promises.proofs.Lasts.StoredCounts.{stored-counts, stored-counts-stay}
 use Rattle.promises.proofs.Effects.OneStep.{fewest-segments, one-step}
-use Rattle.promises.proofs.Effects.Compacted.{accepted-compact, settled-again, reads-alike}
+use Rattle.promises.proofs.Effects.Compacted.{accepted-compact, little-by-little, settled-again, reads-alike}
 use Rattle.promises.proofs.Effects.ContentsKept.{contents-kept}
 use Rattle.promises.proofs.Conclusions.{not-all-refused, not-all-done, not-unchanged, not-only-E, check-counts}
 
@@ -114,6 +114,7 @@ demands = record {
   fewest-segments = fewest-segments;
   one-step = one-step;
   accepted-compact = accepted-compact;
+  little-by-little = little-by-little;
   settled-again = settled-again;
   contents-kept = contents-kept;
   reads-alike = reads-alike;

@@ -54,6 +54,7 @@ pub record StepMoves (img img′ : List ℕ) (k a q : ℕ) : Type 0 where
   pub fewest : (ps : List (List ℕ)) → flat segment ps ≡ logical img′ (entryAt img k) → segments (block img′ (entryAt img k)) ≤ length ps
   pub contents-same : SameContents img img′ (entryAt img k) (entryAt img k)
   pub others-same : (j : ℕ) → File img j → j ≢ k → SameFile img img′ j
+  pub new-bytes : sector q img′ ≡ sector (leadsTo img k a) img
   pub old-bytes : sector (leadsTo img k a) img′ ≡ sector (leadsTo img k a) img
   pub marks : (x : ℕ) → x < sectors img
       → isFree (sat img′) x ≡ (if eqb x q then false else (if eqb x (leadsTo img k a) then true else isFree (sat img) x))
@@ -96,6 +97,10 @@ abbrev pub AcceptedCompact : Type 0
 AcceptedCompact =
     (s : State) → (quota : ℕ) → Accepts (Compact quota) s
     → Compacts s (step (Compact quota) s) quota (compacted quota (s .image) .moved) (compacted quota (s .image) .ending)
+
+-- "a little at a time": two calls do what one does that has both quotas
+abbrev pub LittleByLittle : Type 0
+LittleByLittle = (s : State) (m n : ℕ) → m + n ≤ mostQuota → next (Compact n) (next (Compact m) s) ≡ next (Compact (m + n)) s
 
 -- after a settled end "a further call moves 0"
 abbrev pub SettledAgain : Type 0

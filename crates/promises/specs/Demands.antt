@@ -19,7 +19,7 @@ use Rattle.promises.specs.Fronts.{UpdatedThrough, RequestsAreVisits, Req
 use Rattle.promises.specs.FrontSteps.{FrontSteps}
 use Rattle.promises.specs.Private.{ReadByRight, ReadByRightThrough, NeverAByte, OnlyReadsHandOver, OldVolumes}
 use Rattle.promises.specs.BroughtUp.{StoredCounts, StoredCountsStay, BringUpExactly, AcceptedBringUp, SoundAlready}
-use Rattle.promises.specs.Compacting.{Fewest, OneStep, AcceptedCompact, SettledAgain, ReadsAlike}
+use Rattle.promises.specs.Compacting.{Fewest, OneStep, AcceptedCompact, LittleByLittle, SettledAgain, ReadsAlike}
 use Rattle.promises.specs.Conclusions.{NotAllRefused, NotAllDone, NotUnchanged, NotOnlyE, CheckCounts}
 use Rattle.promises.specs.Steps.{SmallVolume}
 use Rattle.promises.specs.Table.{TableDiffers}
@@ -126,8 +126,9 @@ pub record Demands : Type 0 where
   pub fewest-segments : Fewest
   pub one-step : OneStep
   -- "A call takes a quota .. and answers the sectors moved within its quota, and why it ended"; "The number equals the steps of the
-  -- definition. Records, places and desk stay"; what is gained; "a further call moves 0"
+  -- definition. Records, places and desk stay"; what is gained; "a little at a time"; "a further call moves 0"
   pub accepted-compact : AcceptedCompact
+  pub little-by-little : LittleByLittle
   pub settled-again : SettledAgain
   -- "In demand 3 compaction may change where a logical sector lies, and nothing that any read returns"
   pub contents-kept : ContentsKept

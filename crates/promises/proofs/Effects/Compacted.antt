@@ -1,19 +1,22 @@
 -- What an accepted compaction does; after a settled end, a further one; and what reads see of it.
 use mathlib.Core.Path.{_≡_, refl, ap, sym, _∙_}
-use mathlib.Core.Bool.{true, not}
+use mathlib.Core.Bool.{Bool, true, false, not, true≢false}
 use mathlib.Core.List.{List, []}
 use mathlib.Core.Logic.{⊎-elim}
-use Prim.Native.Nat.{ℕ, _≤_}
+use Prim.Native.Nat.{ℕ, zero, suc, _+_, _≤_}
+use native.Mathlib.Omega.{arith}
+use native.Mathlib.Nat.{add-zero}
 use borrow.Author.Tests.{ne-eqb, le-ltb}
 use Rattle.numbers.specs.Numbers.{mostQuota}
 use Rattle.lists.proofs.Tests.{both-true}
 use Rattle.files.specs.Files.{sound}
 use Rattle.files.proofs.SoundFacts.{facts}
 use Rattle.keeping.proofs.LongRuns.{long-run}
-use Rattle.compaction.specs.Compaction.{closedUp, compacted}
+use Rattle.compaction.specs.Compaction.{Closing, closedUp, compacted}
+use Rattle.compaction.specs.Code.Going.{afterMany}
 use Rattle.compaction.specs.declared.Ending.the-variants.{Settled}
 use Rattle.compaction.proofs.ClosedUp.{closed-files}
-use Rattle.compaction.proofs.Quota.{compacted-again, compacted-most, compacted-settled, compacted-quota, compacted-segment, compacted-steps}
+use Rattle.compaction.proofs.Quota.{compacted-again, compacted-add, compacted-most, compacted-settled, compacted-quota, compacted-segment, compacted-steps}
 use Rattle.work.proofs.Rules.{Passes}
 use Rattle.desk.specs.declared.Answer.the-variants.{Done}
 use Rattle.desk.specs.declared.Report.the-variants.{Compacted}
@@ -21,13 +24,12 @@ use Rattle.desk.specs.Desk.{State, state, ready}
 use Rattle.desk.specs.Answers.{Outcome, outcome, accepts}
 use Rattle.desk.specs.Calls.{Compact, compactRules, rules, done, closedUpTo, step}
 use Rattle.luns.proofs.Fitting.{fits-is}
-use Rattle.promises.specs.Compacting.{Compacts, AcceptedCompact, SettledAgain, ReadsAlike, NoFreeBelow, LongRuns}
+use Rattle.promises.specs.Compacting.{Compacts, AcceptedCompact, LittleByLittle, SettledAgain, ReadsAlike, NoFreeBelow, LongRuns}
 use Rattle.promises.specs.Runs.{next}
 use Rattle.promises.proofs.Effects.ClosedVolumes.{contents-stay, run-stays, fitting-stays}
 use Rattle.promises.proofs.Effects.ReadsAlike as read
 use Rattle.promises.proofs.Held.{ready-sound, ready-fitting}
 use Rattle.promises.proofs.Passing.{Accepted, accepted, carried, step-passes, next-accepted, next-refused, refused-or-accepted}
-use Rattle.moves.proofs.Rearranged.{Rearranged}
 use Rattle.compaction.proofs.StepsRearrange.{compacted-rearranged}
 use Rattle.promises.proofs.Told.{compact-told}
 
@@ -65,23 +67,52 @@ accepted-compact s quota h =
     let a = accepted (Compact quota) s h in
     rw (a .is) (compacts s quota (ready-sound s (compact-told quota s a .is-ready)))
 
--- a state that a compaction leaves is ready for the next one
+-- a ready state and a quota in range: it is carried out, and leaves a state that is ready
+compact-accepted : (s : State) (n : ℕ) → ready s ≡ true → n ≤ mostQuota → Accepted (Compact n) s
+unfolding rules compactRules
+compact-accepted s n r l =
+    let p : Passes (rules (Compact n) s) = (ap not r, (le-ltb mostQuota n l, tt)) in
+    record { passes = p; is = step-passes (Compact n) s p }
+
+still-ready : (s : State) (n : ℕ) → ready s ≡ true → ready (state (compacted n (s .image) .image) (s .desk)) ≡ true
+unfolding ready
+still-ready s n r =
+    let R = compacted-rearranged n (s .image) (ready-sound s r) in
+    both-true _ _ (R .sound-after (ready-sound s r)) (fits-is _ (s .desk .luns) (fitting-stays (s .image) _ R (s .desk .luns) (ready-fitting s r)))
+
+-- the state after it
+compact-next : (s : State) (n : ℕ) → ready s ≡ true → n ≤ mostQuota → next (Compact n) s ≡ state (compacted n (s .image) .image) (s .desk)
+unfolding done closedUpTo
+compact-next s n r l = next-accepted (Compact n) s (compact-accepted s n r l)
+
+compact-unready : (s : State) (n : ℕ) → ready s ≡ false → next (Compact n) s ≡ s
+compact-unready s n r =
+    ⊎-elim
+    (λ w. next-refused (Compact n) s w)
+    (λ a. absurd (true≢false (sym (compact-told n s a .is-ready) ∙ r)))
+    (refused-or-accepted (Compact n) s)
+
+-- one quota after the other, on the image alone
+images-add : (m n : ℕ) (v : List ℕ) → compacted n (compacted m v .image) .image ≡ compacted (m + n) v .image
+unfolding compacted afterMany
+images-add m zero v = rw (add-zero m)
+images-add m (suc n) v = sym (ap (λ (c : Closing). c .image) (compacted-add m v (suc n) (omega arith)))
+
+pub little-by-little : LittleByLittle
+little-by-little s m n l = go (ready s) refl
+  where
+    go : (b : Bool) → ready s ≡ b → next (Compact n) (next (Compact m) s) ≡ next (Compact (m + n)) s
+    go false r = rw (compact-unready s m r, compact-unready s n r, compact-unready s (m + n) r)
+    go true r =
+        ap (next (Compact n)) (compact-next s m r (omega (arith, l)))
+        ∙ compact-next (state (compacted m (s .image) .image) (s .desk)) n (still-ready s m r) (omega (arith, l))
+        ∙ ap (λ (v : List ℕ). state v (s .desk)) (images-add m n (s .image))
+        ∙ sym (compact-next s (m + n) r l)
+
+-- a settled volume stays as it is
 module _ (s : State) (quota : ℕ) (a : Accepted (Compact quota) s) where
   abbrev v′ : List ℕ
   v′ = compacted quota (s .image) .image
-
-  R : Rearranged (s .image) (compacted quota (s .image) .image)
-  R = compacted-rearranged quota (s .image) (ready-sound s (compact-told quota s a .is-ready))
-
-  still-ready : ready (state (compacted quota (s .image) .image) (s .desk)) ≡ true
-  unfolding ready
-  still-ready =
-      let r = compact-told quota s a .is-ready in
-      both-true _ _ (R .sound-after (ready-sound s r)) (fits-is v′ (s .desk .luns) (fitting-stays (s .image) v′ R (s .desk .luns) (ready-fitting s r)))
-
-  passes-again : (more : ℕ) → more ≤ mostQuota → Passes (rules (Compact more) (state (compacted quota (s .image) .image) (s .desk)))
-  unfolding rules compactRules
-  passes-again more l = (ap not still-ready, (le-ltb mostQuota more l, tt))
 
   settled-so : (n : ℕ) → step (Compact quota) s .answer ≡ Done (Compacted n Settled) → compacted quota (s .image) .ending ≡ Settled
   unfolding done closedUpTo
@@ -93,7 +124,8 @@ module _ (s : State) (quota : ℕ) (a : Accepted (Compact quota) s) where
   unfolding done closedUpTo
   again n e more l =
       let c = compacted-again more v′ (compacted-settled quota (s .image) (settled-so n e)) in
-      rw (next-accepted (Compact quota) s a, step-passes (Compact more) (state v′ (s .desk)) (passes-again more l), c)
+      let t : State = state v′ (s .desk) in
+      rw (next-accepted (Compact quota) s a, compact-accepted t more (still-ready s quota (compact-told quota s a .is-ready)) l .is, c)
 
 pub settled-again : SettledAgain
 settled-again s quota n e more l = again s quota (accepted (Compact quota) s (ap accepts e ∙ done-accepts n)) n e more l

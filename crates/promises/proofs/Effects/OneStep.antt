@@ -15,7 +15,7 @@ use Rattle.ownership.proofs.Fewest.{fewest-order, gives-order}
 use Rattle.files.specs.Files.{sound}
 use Rattle.files.proofs.SoundFacts.{Facts, facts}
 use Rattle.moves.specs.Moves.{sectorOf, rerouted, reroutedPairs}
-use Rattle.moves.proofs.Relocated.{relocated-changed, relocated-block, relocated-logical, relocated-entries, relocated-old}
+use Rattle.moves.proofs.Relocated.{relocated-changed, relocated-block, relocated-logical, relocated-entries, relocated-new, relocated-old}
 use Rattle.moves.proofs.RelocatedSound.{relocated-free}
 use Rattle.compaction.specs.Compaction.{holderOf, highestData, lowestFree, closedUp, stepFile, stepNumber, stepped, overfull}
 use Rattle.compaction.proofs.ClosedUp.{StepFacts, step-facts, data-most, free-least}
@@ -81,6 +81,7 @@ module _ (v : List ℕ) (h : sound v ≡ true) (c : closedUp v ≡ false) (o : o
     others-same =
         λ j f n. same-other v (stepped v) k (entryAt v k) _
         (relocated-changed v F k (S .slot) (S .used) (S .sequential) a q (S .number) (S .inside) (S .is-free) (few-segments v o)) j f n;
+    new-bytes = relocated-new v F k (S .slot) (S .used) (S .sequential) a q (S .number) (S .inside) (S .is-free) (few-segments v o);
     old-bytes = relocated-old v F k (S .slot) (S .used) (S .sequential) a q (S .number) (S .inside) (S .is-free) (few-segments v o);
     marks = relocated-free v F k (S .slot) (S .used) (S .sequential) a q (S .number) (S .inside) (S .is-free) (few-segments v o);
   }
