@@ -70,7 +70,7 @@ fn push_all(f: &[u8], i: usize, q: usize, g: &mut [u8]) -> bool
 }
 
 /// The access block f with q for its sector of number i, made in g, which is all zeros. False if that takes more than 62 segments.
-pub fn reroute(f: &[u8], i: usize, q: usize, g: &mut [u8]) -> bool
+pub(crate) fn reroute(f: &[u8], i: usize, q: usize, g: &mut [u8]) -> bool
     requires { ⌜ (length (now f) ≡ 256) × (blockSound mostSectors (now f) ≡ true) × (q < mostSectors) × (now g ≡ blanks 256) ⌝ }
     ensures { λ r. ⌜ (r ≡ leb (length (extendedBy [] (set (sectorsOf (now (f .entry))) i q))) mostSegments)
         × (r ≡ true → now (g .exit) ≡ blockOf (extendedBy [] (set (sectorsOf (now (f .entry))) i q))

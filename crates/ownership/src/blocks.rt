@@ -1,5 +1,6 @@
 // File access blocks: where their numbers stand; read, judged, extended, written.
 ghost use mathlib.Core.Path.{_≡_};
+ghost use mathlib.Core.Bool.{false};
 ghost use Prim.Native.Nat.{_+_, _*_, _≤_, _<_};
 ghost use Rattle.numbers.specs.Numbers.{mostSegments};
 ghost use Rattle.ownership.specs.Blocks.{pairs, segments, total, streamLength, segStart, segLength, blockOf, extended};
@@ -112,10 +113,10 @@ pub fn extend(f: &mut [u8], s: usize)
     open_segment(f, s, 1);
 }
 
-/// n sectors from s on more at the file's end, if 62 segments are enough. If not, the answer is false, and what f holds then is left open.
+/// n sectors from s on more at the file's end, if 62 segments are enough. If not, the answer is false, and the block stays as it was.
 pub fn extend_run(f: &mut [u8], s: usize, n: usize) -> bool
     requires { ⌜ ExtendsRun (now f) s n ⌝ }
-    ensures { λ r. ⌜ Extended (now (f .entry)) (range s n) r (now (f .exit)) ⌝ }
+    ensures { λ r. ⌜ Extended (now (f .entry)) (range s n) r (now (f .exit)) × (r ≡ false → now (f .exit) ≡ now (f .entry)) ⌝ }
 {
     if n == 0 {
         return true;

@@ -13,7 +13,7 @@ same-length c = search needs
 returns : tie.Need-returns
 returns c =
     let a = c .before .before .before .before .before .before .args in
-    rw (with-before (a .at) (a .s) (a .n) (a .i) (a .q) (omega arith)) (c .before .before .extend-run .ensures)
+    rw (with-before (a .at) (a .s) (a .n) (a .i) (a .q) (omega arith)) (c .before .before .extend-run .ensures .0)
 
 push-with-requires : tie.Need-push-with-requires
 push-with-requires c κs = search needs
@@ -35,7 +35,7 @@ same-length-3 c = search needs
 returns-3 : tie.Need-returns-3
 returns-3 c =
     let a = c .before .before .before .before .before .before .before .args in
-    rw (with-after (a .at) (a .s) (a .n) (a .i) (a .q) (omega arith) (omega arith)) (c .before .before .extend-run2 .ensures)
+    rw (with-after (a .at) (a .s) (a .n) (a .i) (a .q) (omega arith) (omega arith)) (c .before .before .extend-run2 .ensures .0)
 
 pub push-segment-spec : {M : Type 1} → statement M
 push-segment-spec =

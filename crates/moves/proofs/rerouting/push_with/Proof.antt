@@ -15,12 +15,12 @@ same-length c = search needs
 returns : tie.Need-returns
 returns c =
     let s = c .before .before .before .before .before .before in
-    fails-first _ (s .pre .0 .shaped) _ _ _ _ (s .pre .2) _ _ (failed (c .if1 .taken) (c .before .before .before .extend-run .ensures))
+    fails-first _ (s .pre .0 .shaped) _ _ _ _ (s .pre .2) _ _ (failed (c .if1 .taken) (c .before .before .before .extend-run .ensures .0))
 
 extend-run-requires-2 : tie.Need-extend-run-requires-2
 extend-run-requires-2 c κs =
     let s = c .before .before .before .before .before .before .before in
-    let first = passed (c .before .if1 .left) (c .before .before .before .before .extend-run .ensures) in
+    let first = passed (c .before .if1 .left) (c .before .before .before .before .extend-run .ensures .0) in
     takes-run _ (takes-then _ (s .pre .0) _ _ (range-below mostSectors (s .args .s) (s .args .j) (omega arith)) first) _ _ (omega arith)
 
 same-length-2 : tie.Need-same-length-2
@@ -29,8 +29,8 @@ same-length-2 c = search needs
 returns-2 : tie.Need-returns-2
 returns-2 c =
     let s = c .before .before .before .before .before .before .before .before .before .before .before in
-    let first = passed (c .before .before .before .before .before .if1 .left) (c .before .before .before .before .before .before .before .before .extend-run .ensures) in
-    fails-second _ (s .pre .0 .shaped) _ _ _ _ (s .pre .2) _ first _ _ (failed (c .if2 .taken) (c .before .before .before .extend-run2 .ensures))
+    let first = passed (c .before .before .before .before .before .if1 .left) (c .before .before .before .before .before .before .before .before .extend-run .ensures .0) in
+    fails-second _ (s .pre .0 .shaped) _ _ _ _ (s .pre .2) _ first _ _ (failed (c .if2 .taken) (c .before .before .before .extend-run2 .ensures .0))
 
 add-next : tie.Need-add-next
 add-next c = search needs
@@ -45,8 +45,8 @@ extend-run-requires-3 : tie.Need-extend-run-requires-3
 extend-run-requires-3 c κs =
     let s = c .before .before .before .before .before .before .before .before .before .before .before .before in
     let first =
-    passed (c .before .before .before .before .before .before .if1 .left) (c .before .before .before .before .before .before .before .before .before .extend-run .ensures) in
-    let second = passed (c .before .if2 .left) (c .before .before .before .before .extend-run2 .ensures) in
+    passed (c .before .before .before .before .before .before .if1 .left) (c .before .before .before .before .before .before .before .before .before .extend-run .ensures .0) in
+    let second = passed (c .before .if2 .left) (c .before .before .before .before .extend-run2 .ensures .0) in
     let one = takes-then _ (s .pre .0) _ _ (range-below mostSectors (s .args .s) (s .args .j) (omega arith)) first in
     takes-run _ (takes-then _ one _ _ (range-below mostSectors (s .args .q) 1 (omega arith)) second) _ _ (omega arith)
 
@@ -58,9 +58,9 @@ returns-3 c =
     let s = c .before .before .before .before .before .before .before .before .before .before .before .before .before .before .before in
     let first =
     passed (c .before .before .before .before .before .before .before .before .before .if1 .left)
-    (c .before .before .before .before .before .before .before .before .before .before .before .before .extend-run .ensures) in
-    let second = passed (c .before .before .before .before .if2 .left) (c .before .before .before .before .before .before .before .extend-run2 .ensures) in
-    pushed-three _ (s .pre .0 .shaped) _ _ _ _ (s .pre .2) _ first _ _ _ second (c .before .before .extend-run3 .ensures)
+    (c .before .before .before .before .before .before .before .before .before .before .before .before .extend-run .ensures .0) in
+    let second = passed (c .before .before .before .before .if2 .left) (c .before .before .before .before .before .before .before .extend-run2 .ensures .0) in
+    pushed-three _ (s .pre .0 .shaped) _ _ _ _ (s .pre .2) _ first _ _ _ second (c .before .before .extend-run3 .ensures .0)
 
 pub push-with-spec : {M : Type 1} → statement M
 push-with-spec =
