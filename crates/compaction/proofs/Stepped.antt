@@ -22,7 +22,7 @@ use Rattle.files.proofs.SoundFacts.{Facts, facts}
 use Rattle.files.proofs.SequentialFile.{logical-distinct}
 use Rattle.files.proofs.OneFileChanged.{file-other}
 use Rattle.moves.specs.Moves.{sectorOf, rerouted}
-use Rattle.lists.proofs.ListReplaced.{among-set}
+use Rattle.lists.proofs.MembersReplaced.{among-set}
 use Rattle.moves.proofs.Relocated.{relocated-changed, relocated-logical}
 use Rattle.moves.proofs.RelocatedSound.{relocated-free}
 use Rattle.moves.proofs.Rearranged.{Rearranged, entry-same, dirs-same, sectors-same}

@@ -10,7 +10,7 @@ pub mod JoinedLists
 pub mod Keeps
 pub mod KeptCount
 pub mod LentParts
-pub mod ListReplaced
+pub mod MembersReplaced
 pub mod Lists
 pub mod Members
 pub mod Pieces

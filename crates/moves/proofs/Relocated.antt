@@ -40,7 +40,7 @@ use Rattle.files.proofs.appending.OwnersJoined.{clear-narrow}
 use Rattle.files.proofs.appending.FileLengthened.{clear-both}
 use Rattle.moves.specs.Moves.{sectorOf, rerouted, reroutedPairs, relocated}
 use Rattle.lists.proofs.Members.{among-at}
-use Rattle.lists.proofs.ListReplaced.{flat-set-same}
+use Rattle.lists.proofs.MembersReplaced.{flat-set-same}
 use Rattle.moves.proofs.ReroutedBlock.{reroutedBlock, length-rerouted-block, sectorsOf-rerouted, streamLength-rerouted}
 
 module _ (v : List ℕ) (F : Facts v) (k : ℕ) (hk : k < 8 * dirs v) (used : unused (entryAt v k) ≡ false) (seq : contiguous (entryAt v k) ≡ false) (i q : ℕ)

@@ -33,7 +33,7 @@ use Rattle.files.proofs.OneFileChanged.{Changed, ahead, behind, owned-was, sect
 use Rattle.files.proofs.SequentialFile.{owned-is, placed-is, content-is, fab-inside, logical-inside}
 use Rattle.moves.specs.Moves.{sectorOf, rerouted, reroutedPairs, relocated}
 use Rattle.lists.proofs.Members.{among-at}
-use Rattle.lists.proofs.ListReplaced.{among-set, distinct-set, set-middle, getD-middle}
+use Rattle.lists.proofs.MembersReplaced.{among-set, distinct-set, set-middle, getD-middle}
 use Rattle.moves.proofs.ReroutedBlock.{reroutedBlock, rerouted-inside, sound-rerouted}
 use Rattle.moves.proofs.Relocated.{relocated-changed, relocated-block, relocated-sat, relocated-stored, relocated-long, relocated-stream, relocated-records, relocated-owned}
 

@@ -24,20 +24,27 @@ use volume::locate::Layout;
 use volume::locate::Where;
 use volume::sat::marked;
 
+// Slots that have a capital letter; a letter; a letter or a digit. The two after these have a sign.
+const CAPITALS: usize = 26;
+
+const LETTERS: usize = 52;
+
+const LETTERS_AND_DIGITS: usize = 62;
+
 // The letter of slot k, of the 64 that there can be.
 fn slot_letter(k: usize) -> u8
     ensures { λ r. ⌜ r ≡ slotLetter k ⌝ }
 {
-    if k < 26 {
+    if k < CAPITALS {
         return (65 + k) as u8;
     }
-    if k < 52 {
+    if k < LETTERS {
         return (71 + k) as u8;
     }
-    if k < 62 {
+    if k < LETTERS_AND_DIGITS {
         return (k - 4) as u8;
     }
-    if k == 62 {
+    if k == LETTERS_AND_DIGITS {
         return b'+';
     }
     b'/'

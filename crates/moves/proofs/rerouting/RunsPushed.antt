@@ -1,7 +1,7 @@
 -- The segments of an access block pushed into another one, one of their sectors replaced: what a push asks for, and what is told after it.
 use mathlib.Core.Path.{_≡_, ap, _∙_}
 use mathlib.Core.Bool.{Bool, true, false, not}
-use mathlib.Core.List.{List, [], _∷_, _++_}
+use mathlib.Core.List.{List, _∷_, _++_}
 use Prim.Native.Nat.{ℕ, zero, suc, _+_, _-_, _≤_, _<_}
 use native.Mathlib.Decide.{decLt}
 use native.Mathlib.Omega.{arith}
@@ -12,6 +12,7 @@ use borrow.Author.Tests.{lt-ltb, le-ltb, not-true, not-false}
 use Rattle.numbers.specs.Numbers.{mostSectors}
 use Rattle.lists.specs.Lists.{range, all, flat, if_then_else_}
 use Rattle.lists.proofs.JoinedLists.{all-set}
+use Rattle.lists.proofs.MembersReplaced.{set-append-right}
 use Rattle.lists.proofs.Ranges.{length-range, range-below}
 use Rattle.lists.proofs.AreBytes.{Bytes}
 use Rattle.ownership.specs.Blocks.{pairs, segments, segment, segStart, segLength, sectorsOf}
@@ -22,13 +23,6 @@ use Rattle.files.proofs.map.MapFilled.{firstOf, first-none, first-more, first-a
 use Rattle.moves.specs.Code.Shapes.{runWith, TakesRuns}
 
 -- one element replaced, of two lists joined
-set-append-right : (a b : List ℕ) (i q : ℕ) → length a ≤ i → set (a ++ b) i q ≡ a ++ set b (i - length a) q
-set-append-right [] b i q h = let z : i - 0 ≡ i = omega arith in rw z
-set-append-right (x ∷ a) b zero q h = absurd (omega arith)
-set-append-right (x ∷ a) b (suc i) q h =
-    let z : suc i - suc (length a) ≡ i - length a = omega arith in
-    rw z (ap (λ (l : List ℕ). x ∷ l) (set-append-right a b i q (omega arith)))
-
 set-append : (a b : List ℕ) (i q : ℕ) → set (a ++ b) i q ≡ set a i q ++ (if ltb i (length a) then b else set b (i - length a) q)
 set-append a b i q = elim (decLt i (length a)) [
   | yes h ↦ rw (lt-ltb i (length a) h) (set-append-left a b i q h)

@@ -11,6 +11,7 @@ use borrow.Author.Tests.{leb-true}
 use Rattle.lists.specs.Lists.{if_then_else_, _and_, _or_, all}
 use Rattle.lists.specs.Parts.{part}
 use Rattle.lists.proofs.Tests.{and-left, and-right, is-false}
+use Rattle.lists.proofs.Alike.{all-alike}
 use Rattle.numbers.specs.Numbers.{lastUser}
 use Rattle.volume.specs.Directory.{entryAt, unused, contiguous, size, owner}
 use Rattle.files.specs.Files.{extent, sound}
@@ -19,7 +20,7 @@ use Rattle.files.proofs.slot.UsedSlots.{used-slot}
 use Rattle.luns.specs.declared.Lun.{Lun}
 use Rattle.luns.specs.declared.Place.{Place}
 use Rattle.luns.specs.declared.Place.the-variants.{Fresh, At}
-use Rattle.luns.specs.Luns.{placeExists, readsByRight, lunFits, fits}
+use Rattle.luns.specs.Luns.{placeExists, readsByRight, lunFits, fits, freeLun}
 use Rattle.luns.specs.Modes.{reads, writes}
 use Rattle.work.specs.Transfers.{ended, readRules, readable, dataAt, reading, moving}
 use Rattle.desk.specs.Desk.{State, state, ready, fileOf, aimed, lunAt}
@@ -41,11 +42,6 @@ unfolding contiguous all
 unused-run [] u = refl
 unused-run (x ∷ []) u = refl
 unused-run (x ∷ y ∷ e) u = and-left _ _ (and-right _ _ u)
-
-all-same : {A : Type 0} (p q : A → Bool) (xs : List A) → ((x : A) → p x ≡ q x) → all p xs ≡ all q xs
-unfolding all
-all-same p q [] h = refl
-all-same p q (x ∷ xs) h = rw (h x, all-same p q xs h)
 
 -- a contiguous read ends at the file's end
 readable-inside : (e : List ℕ) (i n : ℕ) → i ≤ size e → i + readable e i n ≤ size e
@@ -83,7 +79,7 @@ module _ (v v′ : List ℕ) (R : Rearranged v v′) (h : sound v ≡ true) wher
 
   ready-same : (d : Desk) → ready (state v′ d) ≡ ready (state v d)
   unfolding ready fits
-  ready-same d = rw (h, R .sound-after h, all-same (lunFits v′) (lunFits v) (d .luns) lun-same)
+  ready-same d = rw (h, R .sound-after h, all-alike freeLun (lunFits v) (lunFits v′) (d .luns) (d .luns) refl (λ i l. lun-same _))
 
   -- a read of the file in slot k is refused by the same rules, and hands over the same bytes
   sequential-used : (k : ℕ) → contiguous (entryAt v k) ≡ false → unused (entryAt v k) ≡ false

@@ -3,8 +3,9 @@
 use mathlib.Core.Path.{_≡_, refl, ap, sym, _∙_}
 use mathlib.Core.Bool.{Bool, true, false, not, true≢false}
 use mathlib.Core.List.{List, [], _∷_, _++_}
-use Prim.Native.Nat.{ℕ, zero, suc, _+_, _<_}
-use native.Mathlib.Nat.{not-suc-le-zero, le-of-suc-le-suc, zero-add, suc-add}
+use Prim.Native.Nat.{ℕ, zero, suc, _+_, _-_, _≤_, _<_}
+use native.Mathlib.Nat.{not-suc-le-zero, le-of-suc-le-suc}
+use native.Mathlib.Omega.{arith}
 use lib.Dec.{eqb}
 use lib.ListN.{length, getD, set, List·getD-append}
 use lib.Seq.{set-append-left, getD-append-add}
@@ -51,10 +52,18 @@ among-set (x ∷ xs) (suc n) q u d h =
     by false true false e f = refl
     by false false c e f = refl
 
--- in the middle
+-- in the second of two lists, and in the middle of three
+pub set-append-right : (a b : List ℕ) (i q : ℕ) → length a ≤ i → set (a ++ b) i q ≡ a ++ set b (i - length a) q
+set-append-right [] b i q h = let z : i - 0 ≡ i = omega arith in rw z
+set-append-right (x ∷ a) b zero q h = absurd (omega arith)
+set-append-right (x ∷ a) b (suc i) q h =
+    let z : suc i - suc (length a) ≡ i - length a = omega arith in
+    rw z (ap (λ (l : List ℕ). x ∷ l) (set-append-right a b i q (omega arith)))
+
 pub set-middle : (a b c : List ℕ) (n q : ℕ) → n < length b → set (a ++ (b ++ c)) (length a + n) q ≡ a ++ (set b n q ++ c)
-set-middle [] b c n q h = rw zero-add (set-append-left b c n q h)
-set-middle (x ∷ a) b c n q h = rw suc-add (ap (λ (l : List ℕ). x ∷ l) (set-middle a b c n q h))
+set-middle a b c n q h =
+    let z : length a + n - length a ≡ n = omega arith in
+    set-append-right a (b ++ c) (length a + n) q (omega arith) ∙ rw z (ap (λ (l : List ℕ). a ++ l) (set-append-left b c n q h))
 
 pub getD-middle : (a b c : List ℕ) (n : ℕ) → n < length b → getD (a ++ (b ++ c)) (length a + n) 0 ≡ getD b n 0
 getD-middle a b c n h = getD-append-add a (b ++ c) n 0 ∙ List·getD-append b c 0 n h
