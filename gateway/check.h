@@ -86,6 +86,9 @@ int entry_byte(unsigned byte, unsigned v);
 int block_byte(unsigned byte, unsigned v);
 int trailer_byte(unsigned byte, unsigned v);
 
+/* The lines of the README (example.c). */
+int first_record(uint8_t *image, size_t size, const uint8_t *file, uint8_t code, uint8_t *buffer, uint32_t user);
+
 /* Sections, each in a file by topic. */
 void block_lengths(void);
 void desk_lengths(void);
@@ -129,6 +132,14 @@ void closed_lengths(void);
 void closed_bytes(void);
 void closed_at_random(void);
 void closed_large(void);
+void long_records(void);
+void long_fixed(void);
+void long_allocates(void);
+void count_words(void);
+void record_lengths(void);
+void long_texts(void);
+void new_sectors(void);
+void far_segments(void);
 void order_of_compact(void);
 void order_of_format(void);
 void order_of_allocate(void);

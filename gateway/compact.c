@@ -7,7 +7,7 @@
  */
 #include "check.h"
 
-enum { SECTOR = TWYNARVEL_SECTOR_BYTES, ENTRY = 32, MOST_SECTORS = 2048, MOST_SLOTS = 64, MOST_PAIRS = 62 };
+enum { SECTOR = TWYNARVEL_SECTOR_BYTES, ENTRY = 32, MOST_SECTORS = 2048, MOST_SLOTS = 64, MOST_PAIRS = 62, MOST_BYTES = TWYNARVEL_RECORD_BYTES };
 enum { SETTLED = 1, QUOTA = 2, SEGMENT = 3 };
 
 /* ---- what a compaction has to make of a volume, by the lines above */
@@ -227,7 +227,7 @@ static unsigned fill_variable(const unsigned *order, unsigned n, unsigned *recor
 {
     unsigned at = 0, k;
     for (*records = 0; at + SECTOR <= SECTOR * n; ++*records) {
-        unsigned room = SECTOR * n - at - 2, count = below((room < 1024 ? room : 1024) + 1);
+        unsigned room = SECTOR * n - at - 2, count = below((room < MOST_BYTES ? room : MOST_BYTES) + 1);
         *byte_of(order, at) = (uint8_t)(count / 256);
         *byte_of(order, at + 1) = (uint8_t)count;
         at += 2 + count;
@@ -802,7 +802,7 @@ static unsigned any_volume(unsigned t, unsigned files, unsigned longest)
 }
 
 /* What a read of the LUN's current record or sector returns, if it has one: its length, and its bytes in `bytes`. */
-enum { LUNS = 16, MOST_BYTES = TWYNARVEL_RECORD_BYTES };
+enum { LUNS = 16 };
 static uint8_t bytes[LUNS][MOST_BYTES];
 static uint32_t length[LUNS];
 

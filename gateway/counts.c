@@ -83,7 +83,7 @@ void fresh_volumes(void)
             bring_up(0x00);
             make(0, TWYNARVEL_CONTIGUOUS, 1, 0);
             make(1, TWYNARVEL_SEQUENTIAL, 0, 0);
-            make(2, TWYNARVEL_SEQUENTIAL, 0, 1024);
+            make(2, TWYNARVEL_SEQUENTIAL, 0, TWYNARVEL_RECORD_BYTES);
             bring_up(0x00);
             bring_up(0x00);
             check(TWYNARVEL_SOUND + (uint32_t)sectors[k] - dirs - 6);
@@ -299,7 +299,8 @@ void old_bytes(void)
     poke(IMAGE, 0x705, 1); /* the byte after data of odd length is not zero */
     bring_up(0x6F);
     old_house(0);
-    put(IMAGE, 0x700, "0401"); /* a count word above 1,024 */
+    poke(IMAGE, 0x700, (TWYNARVEL_RECORD_BYTES + 1) / 256); /* a count word above the limit, and past E */
+    poke(IMAGE, 0x701, (TWYNARVEL_RECORD_BYTES + 1) % 256);
     bring_up(0x6F);
     rule("bring-up: a file of user 0 with a code");
     old_house(0);
@@ -397,7 +398,7 @@ static void not_counted(unsigned lun, unsigned k, size_t at)
     iocb(0x62, 0, 5);
     transfer(TWYNARVEL_WRITE, TWYNARVEL_RANDOM | TWYNARVEL_IMAGE, lun, k + 2, 1);
     iocb(0xC2, 0, 5);
-    transfer(TWYNARVEL_WRITE, TWYNARVEL_NEXT | TWYNARVEL_IMAGE, lun, 0, 1025);
+    transfer(TWYNARVEL_WRITE, TWYNARVEL_NEXT | TWYNARVEL_IMAGE, lun, 0, TWYNARVEL_RECORD_BYTES + 1);
     iocb(0x84, 0, 5);
     transfer(TWYNARVEL_UPDATE, TWYNARVEL_RANDOM | TWYNARVEL_IMAGE, lun, k + 1, 1);
     iocb(0xC2, 0, 5);
@@ -412,7 +413,7 @@ void counted_appends(void)
 {
     unsigned k;
     rule("counts of appends (record)");
-    lend(TASK, 1025, 0);
+    lend(TASK, TWYNARVEL_RECORD_BYTES + 1, 0);
     lend(SHARED, 0, 0);
     empty(16, 1);
     make(0, TWYNARVEL_SEQUENTIAL, 0, 0);

@@ -167,16 +167,16 @@ void order_of_allocate(void)
     spoil_desk(1);
     spoil_image(1);
     lend(NAME, 19, 0);
-    allocate(0x6F, 65534, 2, 3000, 3000, 1);
+    allocate(0x6F, 65534, 2, 3000, TWYNARVEL_RECORD_BYTES + 1, 1);
     spoil_desk(0);
-    allocate(0x6F, 65534, 2, 3000, 3000, 1);
+    allocate(0x6F, 65534, 2, 3000, TWYNARVEL_RECORD_BYTES + 1, 1);
     spoil_image(0);
-    allocate(0x03, 65534, 2, 3000, 3000, 1);
-    allocate(0x64, 6, 2, 3000, 3000, 1);
+    allocate(0x03, 65534, 2, 3000, TWYNARVEL_RECORD_BYTES + 1, 1);
+    allocate(0x64, 6, 2, 3000, TWYNARVEL_RECORD_BYTES + 1, 1);
     name(FILE_A5);
-    allocate(0x02, 6, 2, 3000, 3000, 1);
+    allocate(0x02, 6, 2, 3000, TWYNARVEL_RECORD_BYTES + 1, 1);
     allocate(0x60, 6, 0, 2048, 0, 1); /* a file of user 0 with a code */
-    allocate(0x60, 6, 1, 0, 1024, 255);
+    allocate(0x60, 6, 1, 0, TWYNARVEL_RECORD_BYTES, 255);
     allocate(0x60, 0, 0, 2048, 0, 1);
     allocate(0x60, 6, 0, 2049, 0, 0);
     allocate(0x0B, 6, 0, 2048, 0, 0);
@@ -186,14 +186,14 @@ void order_of_allocate(void)
     allocate(0x60, 0, 0, 2048, 0, 1);
     allocate(0x67, 0, 0, 2048, 0, 0);
     name(FILE_Y);
-    allocate(0x02, 6, 2, 3000, 3000, 1);
+    allocate(0x02, 6, 2, 3000, TWYNARVEL_RECORD_BYTES + 1, 1);
     allocate(0x60, 6, 0, 3000, 0, 1);
     allocate(0x60, 6, 0, 0, 0, 1);
     allocate(0x60, 6, 0, 2048, 1, 1);
     allocate(0x60, 6, 1, 1, 0, 1);
-    allocate(0x60, 6, 1, 0, 1025, 1);
+    allocate(0x60, 6, 1, 0, TWYNARVEL_RECORD_BYTES + 1, 1);
     allocate(0x0B, 6, 0, 2048, 0, 1);
-    allocate(0x0B, 6, 1, 0, 1024, 1);
+    allocate(0x0B, 6, 1, 0, TWYNARVEL_RECORD_BYTES, 1);
     allocate(0x66, 5, 0, 2048, 0, 1);
     name(FILE_NEW);
     allocate(0x67, 5, 0, 2048, 0, 1);
@@ -398,23 +398,23 @@ void order_of_write(void)
     iocb(0xC2, 0, 5);
     transfer(TWYNARVEL_WRITE, TWYNARVEL_RANDOM, 1, 0, 1024);
     iocb(0xC2, 0, 5);
-    transfer(TWYNARVEL_WRITE, TWYNARVEL_RANDOM | TWYNARVEL_IMAGE, 4, 99, 1025);
+    transfer(TWYNARVEL_WRITE, TWYNARVEL_RANDOM | TWYNARVEL_IMAGE, 4, 99, TWYNARVEL_RECORD_BYTES + 1);
     iocb(0x82, 0, 6);
-    transfer(TWYNARVEL_WRITE, TWYNARVEL_RANDOM | TWYNARVEL_IMAGE, 0, 99, 1025);
+    transfer(TWYNARVEL_WRITE, TWYNARVEL_RANDOM | TWYNARVEL_IMAGE, 0, 99, TWYNARVEL_RECORD_BYTES + 1);
     iocb(0x84, 0, 5);
-    transfer(TWYNARVEL_WRITE, TWYNARVEL_RANDOM | TWYNARVEL_IMAGE, 0, 0, 1025);
+    transfer(TWYNARVEL_WRITE, TWYNARVEL_RANDOM | TWYNARVEL_IMAGE, 0, 0, TWYNARVEL_RECORD_BYTES + 1);
     iocb(0x84, 0, 5);
-    transfer(TWYNARVEL_WRITE, TWYNARVEL_RANDOM, 0, 99, 1024);
+    transfer(TWYNARVEL_WRITE, TWYNARVEL_RANDOM, 0, 99, TWYNARVEL_RECORD_BYTES);
     iocb(0x84, 0, 5); /* EE is no byte of a text */
-    transfer(TWYNARVEL_WRITE, TWYNARVEL_RANDOM, 0, 0, 1024);
+    transfer(TWYNARVEL_WRITE, TWYNARVEL_RANDOM, 0, 0, TWYNARVEL_RECORD_BYTES);
     iocb(0x84, 0, 5);
     transfer(TWYNARVEL_WRITE, TWYNARVEL_RANDOM, 2, 99, 3);
     iocb(0x84, 0, 5); /* not the fixed length */
-    transfer(TWYNARVEL_WRITE, TWYNARVEL_RANDOM | TWYNARVEL_IMAGE, 0, 6, 1024);
+    transfer(TWYNARVEL_WRITE, TWYNARVEL_RANDOM | TWYNARVEL_IMAGE, 0, 6, TWYNARVEL_RECORD_BYTES);
     iocb(0xC2, 0, 5);
-    transfer(TWYNARVEL_WRITE, TWYNARVEL_RANDOM | TWYNARVEL_IMAGE, 0, 4, 1024);
+    transfer(TWYNARVEL_WRITE, TWYNARVEL_RANDOM | TWYNARVEL_IMAGE, 0, 4, TWYNARVEL_RECORD_BYTES);
     iocb(0x62, 0, 5);
-    transfer(TWYNARVEL_WRITE, TWYNARVEL_RANDOM | TWYNARVEL_IMAGE, 0, 5, 1024);
+    transfer(TWYNARVEL_WRITE, TWYNARVEL_RANDOM | TWYNARVEL_IMAGE, 0, 5, TWYNARVEL_RECORD_BYTES);
     iocb(0x63, 0, 5);
     transfer(TWYNARVEL_WRITE, TWYNARVEL_RANDOM | TWYNARVEL_IMAGE, 0, 5, 233);
     iocb(0x63, 0, 5); /* 22 + 2 + 233 + 1 = 258 bytes: one sector more */
@@ -432,13 +432,13 @@ void order_of_update(void)
 {
     rule("order: update");
     opening(TWYNARVEL_UPDATE);
-    transfer(TWYNARVEL_UPDATE, TWYNARVEL_RANDOM | TWYNARVEL_IMAGE, 4, 99, 1025);
+    transfer(TWYNARVEL_UPDATE, TWYNARVEL_RANDOM | TWYNARVEL_IMAGE, 4, 99, TWYNARVEL_RECORD_BYTES + 1);
     iocb(0x82, 0, 6); /* PR does not write */
-    transfer(TWYNARVEL_UPDATE, TWYNARVEL_RANDOM | TWYNARVEL_IMAGE, 1, 99, 1025);
+    transfer(TWYNARVEL_UPDATE, TWYNARVEL_RANDOM | TWYNARVEL_IMAGE, 1, 99, TWYNARVEL_RECORD_BYTES + 1);
     iocb(0x82, 0, 5); /* contiguous */
-    transfer(TWYNARVEL_UPDATE, TWYNARVEL_RANDOM | TWYNARVEL_IMAGE, 0, 99, 1025);
+    transfer(TWYNARVEL_UPDATE, TWYNARVEL_RANDOM | TWYNARVEL_IMAGE, 0, 99, TWYNARVEL_RECORD_BYTES + 1);
     iocb(0x84, 0, 5);
-    transfer(TWYNARVEL_UPDATE, TWYNARVEL_RANDOM | TWYNARVEL_IMAGE, 0, 0, 1025);
+    transfer(TWYNARVEL_UPDATE, TWYNARVEL_RANDOM | TWYNARVEL_IMAGE, 0, 0, TWYNARVEL_RECORD_BYTES + 1);
     iocb(0x84, 0, 5);
     transfer(TWYNARVEL_UPDATE, TWYNARVEL_RANDOM, 0, 99, 4);
     iocb(0x84, 0, 5); /* EE is no byte of a text */
@@ -496,7 +496,7 @@ void order_of_segments(void)
     lend(DESK, 192, 0);
     put(DESK, 0, "01 04 0005 00 00 0000 00000000");
     put(DESK, 12, "01 04 0005 01 00 0000 00000000");
-    lend(TASK, 1024, 0x5A);
+    lend(TASK, TWYNARVEL_RECORD_BYTES, 0x5A);
     lend(SHARED, 0, 0);
     check(TWYNARVEL_SOUND + 126);
     for (k = 0; k < 62; k++) {
@@ -504,8 +504,8 @@ void order_of_segments(void)
         append(1, k, 6 + 2 * k, k, 1);
     }
     check(TWYNARVEL_SOUND + 2);
-    transfer(TWYNARVEL_WRITE, TWYNARVEL_NEXT | TWYNARVEL_IMAGE, 0, 0, 1024);
-    iocb(0x63, 0, 5); /* 1,026 bytes are five sectors */
+    transfer(TWYNARVEL_WRITE, TWYNARVEL_NEXT | TWYNARVEL_IMAGE, 0, 0, TWYNARVEL_RECORD_BYTES);
+    iocb(0x63, 0, 5); /* 4,098 bytes are seventeen sectors */
     transfer(TWYNARVEL_WRITE, TWYNARVEL_NEXT | TWYNARVEL_IMAGE, 0, 0, 254);
     iocb(0x65, 0, 5);
     append(1, 62, 129, 61, 2); /* 129 follows the other file's last segment */

@@ -204,6 +204,7 @@ void texts(void)
     text(255, "FFFF20", 3);
     text(256, "FFFF82", 3);
     text(1024, "FFFFFFFFFFFFFFFF 88", 9);
+    text(TWYNARVEL_RECORD_BYTES, "FFFFFFFFFFFFFFFF FFFFFFFFFFFFFFFF FFFFFFFFFFFFFFFF FFFFFFFFFFFFFFFF A0", 33); /* 32 times 127, and 32 */
 
     rule("texts: letters between spaces");
     house(7, 0);
@@ -234,39 +235,6 @@ void texts(void)
     want(IMAGE, 0x716, "0003 4142FF 00");
     want(DESK, 8, "00000005");
     iocb(0x00, 3, 5);
-
-    rule("records: 1,024 bytes are taken, 1,025 are $84");
-    house(1025, 0);
-    put(DESK, 8, "00000004");
-    transfer(TWYNARVEL_WRITE, TWYNARVEL_NEXT | TWYNARVEL_IMAGE, 0, 0, 1025);
-    iocb(0x84, 0, 5);
-    put(TASK, 0, "21");
-    transfer(TWYNARVEL_WRITE, TWYNARVEL_NEXT | TWYNARVEL_IMAGE, 0, 0, 1024);
-    want(IMAGE, 0x100, "FF FD"); /* E was 22; 22 + 1,026 = 1,048 bytes are 5 sectors: four new ones, 10 to 13 */
-    want(IMAGE, 0x600, "0002 0005 00000418 0007 0001 000A 0004");
-    want(IMAGE, 0x23C, "00000006");
-    want(IMAGE, 0x716, "0400 21");
-    want_fill(IMAGE, 0x719, 0x100 - 0x19, 0xEE);
-    want_fill(IMAGE, 0xA00, 1024 - (0x100 - 0x18), 0xEE);
-    want(DESK, 8, "00000005");
-    iocb(0x00, 1024, 5);
-    check_free(1);
-    lend(TASK, 1025, 0x20); /* the limit is about the text, not what it packs to */
-    transfer(TWYNARVEL_WRITE, TWYNARVEL_NEXT, 0, 0, 1025);
-    iocb(0x84, 0, 5);
-
-    rule("texts: the longest, 1,024 times 127 spaces");
-    lend(TASK, 1024, 0xFF);
-    transfer(TWYNARVEL_UPDATE, TWYNARVEL_CURRENT | TWYNARVEL_IMAGE, 0, 0, 1024);
-    want_fill(IMAGE, 0x718, 0x100 - 0x18, 0xFF);
-    want_fill(IMAGE, 0xA00, 1024 - (0x100 - 0x18), 0xFF);
-    iocb(0x00, 1024, 5);
-    lend(TASK, 130049, 0xEE);
-    transfer(TWYNARVEL_READ, TWYNARVEL_CURRENT, 0, 0, 130047);
-    iocb(0x84, 0, 5);
-    transfer(TWYNARVEL_READ, TWYNARVEL_CURRENT, 0, 0, 130049);
-    want_fill(TASK, 0, 130048, 0x20);
-    iocb(0x00, 130048, 5);
 }
 
 /* Contiguous transfers: 1 to 16 whole sectors; a read takes what there is; a write all or nothing; the text option is ignored. */
@@ -431,9 +399,10 @@ void places(void)
     assign(0x00, 5, 5, TWYNARVEL_PRPW, TWYNARVEL_AT_START, 0);
     rule("at the end of a file with no record");
     house(8, 0);
-    want(IMAGE, 0x260, "01 01" FILE_NEW "0000 0400 000A 00000000"); /* record length 1,024, access block 10 */
+    want(IMAGE, 0x260, "01 01" FILE_NEW "0000 0000 000A 00000000"); /* access block 10 */
+    want_word(0x278, TWYNARVEL_RECORD_BYTES);
     want(IMAGE, 0x101, "E1");
-    allocate(0x00, 0, TWYNARVEL_SEQUENTIAL, 0, 1024, 0);
+    allocate(0x00, 0, TWYNARVEL_SEQUENTIAL, 0, TWYNARVEL_RECORD_BYTES, 0);
     want(DESK, 60, "01 07 0005 03 00 0000 00000000");
     assign(0x00, 5, 5, TWYNARVEL_EREW, TWYNARVEL_AT_END, 0);
     rule("numbers are not cut to fewer bits");
@@ -454,7 +423,7 @@ void places(void)
     allocate(0x60, 5, 0, 1, 65536, 0);
     allocate(0x60, 5, 1, 65536, 0, 0);
     allocate(0x60, 5, 1, 0, 65536, 0);
-    allocate(0x60, 5, 1, 0, 1025, 0);
+    allocate(0x60, 5, 1, 0, TWYNARVEL_RECORD_BYTES + 1, 0);
     allocate(0x60, 5, 0, 2049, 0, 0);
     allocate(0x63, 5, 0, 2048, 0, 0);
     rewind_of(16);
@@ -666,7 +635,8 @@ void soundness(void)
     poke(IMAGE, 0x705, 1); /* the byte after data of odd length is not zero */
     check(0);
     house(0, 0);
-    put(IMAGE, 0x700, "0401"); /* a count above 1,024 */
+    poke(IMAGE, 0x700, (TWYNARVEL_RECORD_BYTES + 1) / 256); /* a count above the limit, and past E */
+    poke(IMAGE, 0x701, (TWYNARVEL_RECORD_BYTES + 1) % 256);
     check(0);
     other_lengths();
 }

@@ -6,8 +6,6 @@
 
 int printf(const char *text, ...);
 
-int first_record(uint8_t *image, size_t size, const uint8_t *file, uint8_t code, uint8_t *buffer, uint32_t user); /* example.c */
-
 /* The lines of the README: they read the first record of Y, which has a code other than 0. */
 static void example(void)
 {
@@ -34,7 +32,7 @@ static void names(void)
         {TWYNARVEL_OTHER_LENGTH, 0x61}, {TWYNARVEL_EXISTS, 0x62}, {TWYNARVEL_NO_ROOM, 0x63}, {TWYNARVEL_BAD_DESCRIPTOR, 0x64},
         {TWYNARVEL_NO_SEGMENT, 0x65}, {TWYNARVEL_NAME_TAKEN, 0x66}, {TWYNARVEL_DIRECTORY_FULL, 0x67}, {TWYNARVEL_NOT_SOUND, 0x6F},
         {TWYNARVEL_BAD_REQUEST, 0x82}, {TWYNARVEL_BAD_LENGTH, 0x84}, {TWYNARVEL_PAST_END, 0xC2}, {TWYNARVEL_SOUND, 65536},
-        {TWYNARVEL_SECTOR_BYTES, 256}, {TWYNARVEL_ID_BYTES, 4}, {TWYNARVEL_DESCRIPTOR_BYTES, 20}, {TWYNARVEL_RECORD_BYTES, 1024},
+        {TWYNARVEL_SECTOR_BYTES, 256}, {TWYNARVEL_ID_BYTES, 4}, {TWYNARVEL_DESCRIPTOR_BYTES, 20}, {TWYNARVEL_RECORD_BYTES, 4096},
         {TWYNARVEL_TRANSFER_BYTES, 4096}, {TWYNARVEL_BLOCK_BYTES, 28}, {TWYNARVEL_DESK_BYTES, 192}, {TWYNARVEL_LUN_BYTES, 12},
         {TWYNARVEL_REPORT_BYTES, 4}, {TWYNARVEL_REPORT_ENDING, 0}, {TWYNARVEL_REPORT_MOVED, 2}, {TWYNARVEL_SETTLED, 1},
         {TWYNARVEL_QUOTA_USED, 2}, {TWYNARVEL_SEGMENT_NEEDED, 3}, {TWYNARVEL_MOST_QUOTA, 2048},
@@ -63,8 +61,9 @@ int main(void)
         story, texts, sectors, fixed, places, formats, soundness, modes, fitting, entry_codes, new_codes, offered_codes, kept_codes,
         reads_by_code, private_file, fresh_volumes, old_volume, counts_left, old_bytes, old_lengths, long_counts, counted_appends, closed_house,
         small_volume_closed, quotas, reports, segments_joined, segments_at_most, closed_lengths, closed_bytes, closed_at_random, closed_large,
-        order_of_compact, order_of_format, order_of_allocate, order_of_assign, order_of_close, order_of_delete, order_of_rewind, order_of_read,
-        order_of_write, order_of_update, order_of_segments};
+        long_records, long_fixed, long_allocates, count_words, record_lengths, long_texts, new_sectors, far_segments, order_of_compact,
+        order_of_format, order_of_allocate, order_of_assign, order_of_close, order_of_delete, order_of_rewind, order_of_read, order_of_write,
+        order_of_update, order_of_segments};
     size_t k;
     prepare();
     for (after_fence = 0; after_fence < 2; after_fence++)

@@ -15,7 +15,7 @@
  * - The areas of one call do not overlap.
  * - A null pointer is passed only with length 0.
  * - No other thread uses the areas while the call runs.
- * - The stack has room: the library takes no memory of its own from anywhere else.
+ * - The stack has room, 24 KB for any call: the library takes no memory of its own from anywhere else.
  * Beyond that, every length, every byte and every number will do. A call answers a status number to whatever it is given.
  *
  * A refusal leaves the image, the desk bytes, the two areas of a request and the report of a compaction as they were. Where several reasons
@@ -59,7 +59,7 @@ extern "C" {
 #define TWYNARVEL_SECTOR_BYTES 256
 #define TWYNARVEL_ID_BYTES 4           /* a volume ID */
 #define TWYNARVEL_DESCRIPTOR_BYTES 20  /* user 0-1, catalog 2-9, filename 10-17, extension 18-19; names end in spaces */
-#define TWYNARVEL_RECORD_BYTES 1024    /* the most data bytes of a record, and of a text before it is packed */
+#define TWYNARVEL_RECORD_BYTES 4096    /* the most data bytes of a record, and of a text before it is packed */
 #define TWYNARVEL_TRANSFER_BYTES 4096  /* the most bytes of a contiguous transfer */
 #define TWYNARVEL_BLOCK_BYTES 28
 #define TWYNARVEL_DESK_BYTES 192
@@ -176,8 +176,9 @@ extern "C" {
  *   then  rewind: 0x6F volume or desk, 0x03 caller or LUN
  *         read: 0x6F, 0x03, 0x82 mode or selector, 0x84 (contiguous: no multiple of 256, or over 4,096), 0xC2 target at or past the end,
  *           0x84 (sequential: shorter than the record or its text)
- *         write: 0x6F, 0x03, 0x82, 0x84 (contiguous as in a read; sequential: over 1,024, not a fixed file's record length, or a text with
- *           a byte of 0x80 or more), 0xC2 past the end; sequential alone: 0x62 the record is there, 0x63 too few free sectors, 0x65 segments
+ *         write: 0x6F, 0x03, 0x82, 0x84 (contiguous as in a read; sequential: over TWYNARVEL_RECORD_BYTES, not a fixed file's record length,
+ *           or a text with a byte of 0x80 or more), 0xC2 past the end; sequential alone: 0x62 the record is there, 0x63 too few free sectors,
+ *           0x65 segments
  *         update: 0x6F, 0x03, 0x82 mode or selector, 0x82 a contiguous file, 0x84 as in a write, 0xC2, 0x61 another length
  */
 uint32_t twynarvel_iocb(uint8_t *block, size_t block_len, uint8_t *image, size_t image_len, uint8_t *desk, size_t desk_len,
@@ -230,7 +231,7 @@ uint32_t twynarvel_bring_up(uint8_t *image, size_t image_len);
  * desc       the descriptor, 20 bytes.
  * kind       TWYNARVEL_CONTIGUOUS or TWYNARVEL_SEQUENTIAL.
  * size       sectors of a contiguous file, 1 to 2,048; 0 for a sequential one.
- * record     0 for a contiguous file; for a sequential one 0 (variable records) or the length of each record, 1 to 1,024.
+ * record     0 for a contiguous file; for a sequential one 0 (variable records) or the length of each record, 1 to TWYNARVEL_RECORD_BYTES.
  * read_code  the read-protect code, 0 to 255: what other users have to offer to read the file. 0 for a file that every user may read, and
  *            for each file of user 0.
  *

@@ -1,9 +1,10 @@
 -- Computed examples of this layer's definitions: an edit of a definition that breaks one is refused here.
 use mathlib.Core.List.{List, [], _∷_, _++_}
 use mathlib.Core.Path.{_≡_, refl}
-use mathlib.Core.Bool.{Bool, false}
-use Prim.Native.Nat.{ℕ}
+use mathlib.Core.Bool.{Bool, true, false}
+use Prim.Native.Nat.{ℕ, _+_}
 use lib.ListN.{replicate}
+use Rattle.numbers.specs.Numbers.{recordLimit}
 use Rattle.lists.specs.Lists.{lists-open, flat}
 use Rattle.lists.specs.Parts.{parts-open}
 use Rattle.volume.specs.Directory.{entryAt, recordCount, withCount, putEntry, directory-open}
@@ -11,7 +12,7 @@ use Rattle.volume.specs.Sat.{one, free, sat-open}
 use Rattle.volume.specs.Formatted.{formatted, formatted-open}
 use Rattle.volume.specs.Names.{names-open}
 use Rattle.volume.specs.Volume.{volume-open}
-use Rattle.records.specs.Records.{streamOf, records-open, recordsOf, wholeRecords}
+use Rattle.records.specs.Records.{encoded, streamOf, records-open, recordsOf, wholeRecords}
 use Rattle.records.specs.Streams.{streams-open}
 use Rattle.ownership.specs.Blocks.{block, pairs, total, streamLength, blocks-open}
 use Rattle.ownership.specs.Owners.{owners-open}
@@ -30,13 +31,16 @@ three-back : recordsOf 0 (streamOf 0 three) ≡ three
 unfolding three lists-open parts-open records-open
 three-back = refl
 
--- a pad byte that is not zero, a record cut short, a count over 1,024
-unwhole : List Bool
-unwhole = wholeRecords 0 (0 ∷ 1 ∷ 7 ∷ 7 ∷ []) ∷ wholeRecords 0 (0 ∷ 2 ∷ 7 ∷ []) ∷ wholeRecords 0 (4 ∷ 1 ∷ replicate 1026 0) ∷ wholeRecords 3 (1 ∷ 2 ∷ 3 ∷ 4 ∷ []) ∷ []
+-- a pad byte that is not zero, a record cut short, a count over the record limit and one at it, a fixed record cut short
+judged-streams : List Bool
+judged-streams =
+    wholeRecords 0 (0 ∷ 1 ∷ 7 ∷ 7 ∷ []) ∷ wholeRecords 0 (0 ∷ 2 ∷ 7 ∷ [])
+    ∷ wholeRecords 0 (encoded 0 (replicate (1 + recordLimit) 7)) ∷ wholeRecords 0 (encoded 0 (replicate recordLimit 7))
+    ∷ wholeRecords 3 (1 ∷ 2 ∷ 3 ∷ 4 ∷ []) ∷ []
 
-unwhole-refused : unwhole ≡ false ∷ false ∷ false ∷ false ∷ []
-unfolding unwhole lists-open parts-open records-open
-unwhole-refused = refl
+streams-judged : judged-streams ≡ false ∷ false ∷ false ∷ true ∷ false ∷ []
+unfolding judged-streams lists-open parts-open records-open
+streams-judged = refl
 
 -- A variable file on the smallest volume: its access block takes sector 3. The first record takes one sector, a short second one
 -- takes none, an update takes none, and deleting the file frees both; E is 6, 12, 12, the record count 1, 2, 2. With its count set to zero

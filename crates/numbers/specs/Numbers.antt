@@ -16,11 +16,11 @@ mostDirs = 8
 abbrev pub mostSegments : ℕ
 mostSegments = 62
 
--- RULES, Words and numbers: 0 to 1,024 data bytes of a record
+-- RULES, Words and numbers: 0 to 4,096 data bytes of a record
 abbrev pub recordLimit : ℕ
-recordLimit = 1024
+recordLimit = 4096
 
--- RULES, Words and numbers: 0 to 5 new sectors of one append: a count word and the longest data, from a sector's start on
+-- RULES, Words and numbers: the most new sectors of one append: those of a count word and the longest data, from a sector's start on
 abbrev pub mostNew : ℕ
 mostNew = (2 + recordLimit + 255) / 256
 

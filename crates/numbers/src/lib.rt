@@ -16,7 +16,7 @@ pub const MOST_FILES: usize = 8 * MOST_DIRS;
 pub const MOST_SEGMENTS: usize = 62;
 
 /// Data bytes of a record.
-pub const RECORD_LIMIT: usize = 1024;
+pub const RECORD_LIMIT: usize = 4096;
 
 /// The most new sectors of one append: a count word and the longest data, from a sector's start on.
 pub const MOST_NEW: usize = (2 + RECORD_LIMIT + 255) / 256;

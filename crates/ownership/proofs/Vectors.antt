@@ -2,8 +2,9 @@
 use mathlib.Core.List.{List, [], _∷_, _++_}
 use mathlib.Core.Path.{_≡_, refl}
 use mathlib.Core.Bool.{Bool, true, false}
-use Prim.Native.Nat.{ℕ}
+use Prim.Native.Nat.{ℕ, _+_}
 use lib.ListN.{take, drop, replicate, length}
+use Rattle.numbers.specs.Numbers.{recordLimit}
 use Rattle.lists.specs.Lists.{_and_, same, lists-open}
 use Rattle.lists.specs.Parts.{parts-open}
 use Rattle.volume.specs.Volume.{trailer, sat, sound1, volume-open}
@@ -62,14 +63,14 @@ names-judged : judged-names ≡ true ∷ false ∷ false ∷ false ∷ false ∷
 unfolding judged-names lists-open parts-open names-open
 names-judged = refl
 
--- an entry is valid up to record length 1,024; two of one name clash, and two unused ones do not; a read-protect code is for files of users
+-- an entry is valid up to the record limit; two of one name clash, and two unused ones do not; a read-protect code is for files of users
 -- other than 0
 file : ℕ → ℕ → ℕ → List ℕ
 file user rc l = entry (fields 1 (0 ∷ user ∷ (replicate 8 32 ++ (88 ∷ replicate 7 32 ++ (65 ∷ 32 ∷ [])))) rc l 6 0)
 
 judged-entries : List Bool
 judged-entries =
-    valid (file 5 0 1024) ∷ valid (file 5 0 1025) ∷ namesDiffer (file 5 0 0 ∷ file 5 0 7 ∷ [])
+    valid (file 5 0 recordLimit) ∷ valid (file 5 0 (1 + recordLimit)) ∷ namesDiffer (file 5 0 0 ∷ file 5 0 7 ∷ [])
     ∷ namesDiffer (replicate 32 0 ∷ replicate 32 0 ∷ file 5 0 0 ∷ [])
     ∷ valid (file 5 255 0) ∷ valid (file 0 0 0) ∷ valid (file 0 1 0) ∷ []
 

@@ -2,20 +2,25 @@
 use mathlib.Core.Path.{_≡_, refl, ap, sym, _∙_}
 use mathlib.Core.Bool.{true, false, Bool}
 use mathlib.Core.List.{List}
-use Prim.Native.Nat.{ℕ, _+_, _*_, _<_}
+use Prim.Native.Nat.{ℕ, _+_, _*_, _<_, _≤_}
 use native.Mathlib.Omega.{arith}
 use lib.ListN.{length}
-use Rattle.lists.specs.Parts.{blanks}
+use Rattle.numbers.specs.Numbers.{recordLimit, mostNew}
+use Rattle.lists.specs.Parts.{blanks, inSectors}
 use Rattle.lists.specs.Lists.{index, if_then_else_}
 use Rattle.lists.proofs.Tests.{zeros-blanks}
 use Rattle.lists.proofs.Ranges.{length-range}
 use Rattle.volume.specs.Volume.{dirs}
 use Rattle.volume.specs.Directory.{entries, entryAt, unused, contiguous, recordLength}
 use Rattle.volume.specs.Sat.{free, lowestRun}
+use Rattle.records.proofs.RecordStreams.{allowed-small}
+use Rattle.ownership.specs.Blocks.{block, streamLength, total}
 use Rattle.ownership.specs.Owners.{owned}
 use Rattle.files.specs.Files.{sound}
 use Rattle.files.specs.Changes.{taken, needed, overwritten, deleted}
 use Rattle.files.proofs.SoundFacts.{facts}
+use Rattle.files.proofs.appending.GrownBlock.{needed-few}
+use Rattle.files.proofs.appending.NeededSectors.{most-new}
 use Rattle.keeping.proofs.AllocateKeeps.{allocate-changed, allocate-sound, allocate-owned}
 use Rattle.keeping.proofs.DeleteKeeps.{delete-changed, delete-sound}
 use Rattle.keeping.proofs.OverwriteKeeps.{overwritten-free}
@@ -29,7 +34,7 @@ use Rattle.desk.specs.Calls.{Call, Format, Check, BringUp, Compact, Allocate, A
 use Rattle.promises.specs.Sectors.{Bytes}
 use Rattle.promises.specs.Contents.{slotHeld}
 use Rattle.promises.specs.Answers.{NoFormat}
-use Rattle.promises.specs.Counts.{sectorsHeld, growth, trade, FreeCount}
+use Rattle.promises.specs.Counts.{sectorsHeld, growth, trade, FreeCount, MostTaken}
 use Rattle.promises.proofs.Passing.{Accepted, accepted}
 use Rattle.promises.proofs.Told.{compact-told, AllocateTold, allocate-told, DeleteTold, delete-told, WriteTold, write-told, update-told}
 use Rattle.promises.proofs.Held.{entryOf, ready-sound}
@@ -83,6 +88,10 @@ module _ (caller lun sel num : ℕ) (bs : List ℕ) (s : State) (T : WriteTold s
   abbrev i : ℕ
   i = aimed s lun sel num
 
+  -- what `trade` says of it
+  abbrev takes-now : ℕ
+  takes-now = if contiguous e then 0 else growth v e (length bs)
+
   needs : contiguous e ≡ false → needed v e bs ≡ growth v e (length bs)
   unfolding growth
   needs q =
@@ -90,10 +99,10 @@ module _ (caller lun sel num : ℕ) (bs : List ℕ) (s : State) (T : WriteTold s
       let H = A .held-file in
       rw (sym (encoded-count (recordLength e) bs)) (needed-count v (H .facts-of) (slotHeld s lun) (H .slot-in) (H .lun-ok .used) q bs)
 
-  free-write : free (written (slotHeld s lun) i bs v) + (if contiguous e then 0 else growth v e (length bs)) ≡ free v + 0
+  free-write : free (written (slotHeld s lun) i bs v) + takes-now ≡ free v + 0
   free-write = go (contiguous e) refl
     where
-      go : (b : Bool) → contiguous e ≡ b → free (written (slotHeld s lun) i bs v) + (if contiguous e then 0 else growth v e (length bs)) ≡ free v + 0
+      go : (b : Bool) → contiguous e ≡ b → free (written (slotHeld s lun) i bs v) + takes-now ≡ free v + 0
       go true q =
           let O : Overwriting s lun i bs = overwriting caller lun sel num bs s T q in
           let H = O .held-file in
@@ -105,6 +114,19 @@ module _ (caller lun sel num : ℕ) (bs : List ℕ) (s : State) (T : WriteTold s
           let H = A .held-file in
           let f = appended-free v (H .facts-of) (slotHeld s lun) (H .slot-in) (H .lun-ok .used) (A .sequential) bs (A .fine) (A .enough) (A .few) in
           rw (q, written-records (slotHeld s lun) i bs v q, sym (needs q)) (omega (arith, f))
+
+  -- .. and never more than data of their length can need
+  takes-most : (m : ℕ) → (contiguous e ≡ false → length bs ≤ m) → takes-now ≤ inSectors (2 + m)
+  takes-most m h = go (contiguous e) refl
+    where
+      go : (b : Bool) → contiguous e ≡ b → takes-now ≤ inSectors (2 + m)
+      go true q = rw q (omega arith)
+      go false q =
+          let H = appending caller lun sel num bs s T q .held-file in
+          rw (q, sym (needs q)) (needed-few v (H .facts-of) (slotHeld s lun) (H .slot-in) (H .lun-ok .used) q bs m (h q))
+
+  takes-few : takes-now ≤ mostNew
+  takes-few = rw most-new (takes-most recordLimit (λ q. allowed-small (recordLength e) bs (appending caller lun sel num bs s T q .fine)))
 
 counted : (c : Call) (s : State) → Bytes (s .image) → NoFormat c → Accepted c s → free (done c s .image) + trade c s .takes ≡ free (s .image) + trade c s .gives
 unfolding done quietly checked closedUpTo transferred trade fileOf reading writing updating moving
@@ -126,3 +148,16 @@ pub free-count : FreeCount
 free-count s b c n h =
     let a = accepted c s h in
     ap (λ (o : Outcome). free (o .image) + trade c s .takes) (a .is) ∙ counted c s b n a
+
+-- The longest record in an empty file
+reached : (img e : List ℕ) → recordLength e ≡ 0 → streamLength (block img e) ≡ 0 → total (block img e) ≡ 0 → growth img e recordLimit ≡ mostNew
+unfolding growth inSectors
+reached img e l m t = rw (l, m, t)
+
+pub most-taken : MostTaken
+unfolding trade fileOf
+most-taken = record {
+  by-length = λ s caller lun sel num fmt bs h. takes-most caller lun sel num _ s (write-told caller lun sel num fmt bs s (accepted _ s h)) _ (λ q. omega arith);
+  never-more = λ s caller lun sel num fmt bs h. takes-few caller lun sel num _ s (write-told caller lun sel num fmt bs s (accepted _ s h));
+  is-reached = reached;
+}

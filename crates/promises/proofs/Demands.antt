@@ -3,6 +3,7 @@ use Rattle.text.proofs.PackedText.{unpacked-packed, packed-one-one, packed-stan
 use Rattle.text.proofs.PackedLength.{packed-shorter}
 use Rattle.records.proofs.RecordStreams.{streamOf-injective}
 use Rattle.promises.specs.Steps.{small-volume}
+use Rattle.promises.specs.LongSteps.{longest-record}
 use Rattle.promises.specs.Table.{table-differs}
 use Rattle.promises.specs.Texts.{samples-packed}
 use Rattle.promises.specs.FrontSteps.{front-steps}
@@ -13,7 +14,7 @@ use Rattle.promises.proofs.Effects.Formatted.{accepted-format}
 use Rattle.promises.proofs.Effects.Allocated.{accepted-allocate}
 use Rattle.promises.proofs.Effects.Deleted.{accepted-delete}
 use Rattle.promises.proofs.Effects.Seated.{accepted-assign, accepted-close, accepted-rewind}
-use Rattle.promises.proofs.Counts.{free-count}
+use Rattle.promises.proofs.Counts.{free-count, most-taken}
 use Rattle.promises.proofs.Reading.{accepted-read}
 use Rattle.promises.proofs.Writing.{accepted-write}
 use Rattle.promises.proofs.Updating.{accepted-update}
@@ -119,6 +120,8 @@ demands = record {
   contents-kept = contents-kept;
   reads-alike = reads-alike;
   reports-told = reports-told;
+  most-taken = most-taken;
+  longest-record = longest-record;
   one-outcome = one-outcome;
   not-all-refused = not-all-refused;
   not-all-done = not-all-done;

@@ -1,9 +1,11 @@
 -- The free sectors after each call, in numbers.
+use mathlib.Core.Bool.{Bool}
 use mathlib.Core.List.{List}
 use mathlib.Core.Path.{_≡_}
-use Prim.Native.Nat.{ℕ, _+_, _-_, _%_}
+use Prim.Native.Nat.{ℕ, _+_, _-_, _%_, _≤_}
 use lib.Dec.{eqb}
 use lib.ListN.{length}
+use Rattle.numbers.specs.Numbers.{recordLimit, mostNew}
 use Rattle.lists.specs.Lists.{if_then_else_}
 use Rattle.lists.specs.Parts.{inSectors}
 use Rattle.volume.specs.Directory.{contiguous, entryAt, recordLength, size}
@@ -54,3 +56,13 @@ abbrev pub FreeCount : Type 0
 FreeCount =
     (s : State) → Bytes (s .image) → (c : Call) → NoFormat c → Accepts c s
     → free (step c s .image) + trade c s .takes ≡ free (s .image) + trade c s .gives
+
+-- RULES, Words and numbers: the most new sectors of one append. A write takes no more sectors than a count word and what it stores fill
+-- from a sector's start on, so never more than `mostNew`; and the longest record, in a variable file that is empty yet, takes as many
+pub record MostTaken : Type 0 where
+  pub by-length : (s : State) (caller lun sel num : ℕ) (fmt : Bool) (bs : List ℕ) → Accepts (Write caller lun sel num fmt bs) s
+      → trade (Write caller lun sel num fmt bs) s .takes ≤ inSectors (2 + length (storedAs fmt (fileOf s lun) bs))
+  pub never-more : (s : State) (caller lun sel num : ℕ) (fmt : Bool) (bs : List ℕ) → Accepts (Write caller lun sel num fmt bs) s
+      → trade (Write caller lun sel num fmt bs) s .takes ≤ mostNew
+  pub is-reached : (img e : List ℕ) → recordLength e ≡ 0 → streamLength (block img e) ≡ 0 → total (block img e) ≡ 0
+      → growth img e recordLimit ≡ mostNew

@@ -7,7 +7,7 @@ use Rattle.promises.specs.Contents.{AcceptedWrite, AcceptedUpdate, Accep
 use Rattle.promises.specs.Contents.{FrameKept, OneStreamEach}
 use Rattle.promises.specs.Filing.{AcceptedFormat, AcceptedAllocate, AcceptedDelete}
 use Rattle.promises.specs.Seating.{AcceptedAssign, AcceptedClose, AcceptedRewind}
-use Rattle.promises.specs.Counts.{FreeCount}
+use Rattle.promises.specs.Counts.{FreeCount, MostTaken}
 use Rattle.promises.specs.Lasting.{AppendEndsNone, Lasts, WrittenIsRead, UpdatedIsRead, WrittenTextIsRead, UpdatedTextIsRead}
 use Rattle.promises.specs.Lasting.{WrittenSectorIsRead, NeverPastEnd}
 use Rattle.promises.specs.Texts.{PackedReadsBack, NoTwoStoredAlike, NeverLonger, NoEmptyByte, LongestText, RunByRun, SamplesPacked}
@@ -22,6 +22,7 @@ use Rattle.promises.specs.BroughtUp.{StoredCounts, StoredCountsStay, Bri
 use Rattle.promises.specs.Compacting.{Fewest, OneStep, AcceptedCompact, LittleByLittle, SettledAgain, ReadsAlike}
 use Rattle.promises.specs.Conclusions.{NotAllRefused, NotAllDone, NotUnchanged, NotOnlyE, CheckCounts}
 use Rattle.promises.specs.Steps.{SmallVolume}
+use Rattle.promises.specs.LongSteps.{LongestRecord}
 use Rattle.promises.specs.Table.{TableDiffers}
 
 pub record Demands : Type 0 where
@@ -135,6 +136,10 @@ pub record Demands : Type 0 where
   pub reads-alike : ReadsAlike
   -- from C, "with count and reason"
   pub reports-told : ReportsTold
+  -- Longer records: "One append may then need as many as 17 new sectors", and never more; the longest record tried on a small volume, one
+  -- computed list
+  pub most-taken : MostTaken
+  pub longest-record : LongestRecord
   -- Each public call's statement settles answer, image, desk and buffer in all cases: at most one outcome satisfies it
   pub one-outcome : OneOutcome
   -- A program that refuses everything is shut out, and so is one that answers $00 to everything,

@@ -1,4 +1,5 @@
 pub mod Steps
+pub mod LongSteps
 pub mod Table
 pub mod Runs
 pub mod Touches

@@ -45,19 +45,19 @@ abbrev pub calls : List Step → List Call
 calls = map (λ t. t .call)
 
 -- of a compaction the sectors moved, and why it ended by its number
-tally : Answer → List ℕ
+unfoldable pub tally : Answer → List ℕ
 tally (Done (Moved n)) = []
 tally (Done (Checked s f)) = []
 tally (Done (Compacted n why)) = n ∷ endingNumber why ∷ []
 tally (Refused why) = []
 
 -- of each call its status, its length, its tally, and what is looked at
-shown : List Step → List Outcome → List (List ℕ)
+unfoldable pub shown : List Step → List Outcome → List (List ℕ)
 shown [] os = []
 shown (t ∷ ts) [] = []
 shown (t ∷ ts) (o ∷ os) = (status (o .answer) ∷ moved (o .answer) ∷ (tally (o .answer) ++ t .look (o .image))) ∷ shown ts os
 
-followed : List Step → State → List (List ℕ)
+unfoldable pub followed : List Step → State → List (List ℕ)
 followed ts s = shown ts (trace (calls ts) s)
 
 -- a user below 256, no catalog, a filename of one letter, extension A; the same of user 5
@@ -72,20 +72,20 @@ pub sat2 : List ℕ → List ℕ
 sat2 img = take 2 (sat img) ++ (one (same (drop 2 (sat img)) (replicate 254 0xFF)) ∷ [])
 
 -- slot k's bytes 28-31, a sequential file's record count
-pub countBytes : ℕ → List ℕ → List ℕ
+unfoldable pub countBytes : ℕ → List ℕ → List ℕ
 countBytes k img = part 28 4 (entryAt img k)
 
 -- slot k's bytes 22-23; its first sector or access block; E; the segments; the physical sector of logical sector 1
 pub codeBytes : ℕ → List ℕ → List ℕ
 codeBytes k img = part 22 2 (entryAt img k)
 
-pub at : ℕ → List ℕ → ℕ
+unfoldable pub at : ℕ → List ℕ → ℕ
 at k img = start (entryAt img k)
 
-pub bytesIn : ℕ → List ℕ → ℕ
+unfoldable pub bytesIn : ℕ → List ℕ → ℕ
 bytesIn k img = streamLength (block img (entryAt img k))
 
-pub segments : ℕ → List ℕ → List ℕ
+unfoldable pub segments : ℕ → List ℕ → List ℕ
 segments k img = flat (λ p. p) (pairs (block img (entryAt img k)))
 
 pub second : ℕ → List ℕ → ℕ

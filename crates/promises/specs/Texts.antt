@@ -29,7 +29,7 @@ NeverLonger = (t : List ℕ) → length (packed t) ≤ length t
 abbrev pub NoEmptyByte : Type 0
 NoEmptyByte = (t : List ℕ) → isText t ≡ true → all (λ b. leb 1 (length (shown b))) (packed t) ≡ true
 
--- a buffer of 130,048 bytes holds the text of any record, and one record has a text of that length
+-- a buffer of 127 times the record limit, 520,192 bytes, holds the text of any record, and one record has a text of that length
 pub record LongestText : Type 0 where
   pub holds-any : (ss : List ℕ) → Bytes ss → length ss ≤ recordLimit → length (unpacked ss) ≤ mostSpaces * recordLimit
   pub is-reached : length (unpacked (replicate recordLimit 0xFF)) ≡ mostSpaces * recordLimit

@@ -15,7 +15,7 @@ use Rattle.lists.proofs.AreBytes.{Bytes}
 use Rattle.lists.proofs.JoinedLists.{all-set}
 use Rattle.records.specs.Code.Walk.{headOf, placeOf}
 use Rattle.records.specs.Records.{encoded, allowed, streamOf, wholeRecords, recordsOf}
-use Rattle.records.proofs.RecordStreams.{allowed-small, whole-streamOf, records-streamOf, streamOf-records, records-allowed}
+use Rattle.records.proofs.RecordStreams.{whole-streamOf, records-streamOf, streamOf-records, records-allowed}
 
 -- a record in the stream: what stands before its data and after it depends on its length alone
 unfoldable pub before : ℕ → ℕ → List ℕ
@@ -56,11 +56,10 @@ pub length-encoded : (l : ℕ) (r q : List ℕ) → length r ≡ length q → le
 length-encoded zero r q h = rw (length-variable r, length-variable q, h)
 length-encoded (suc l) r q h = rw (length-fixed (suc l) r (omega arith), length-fixed (suc l) q (omega arith)) h
 
-pub length-allowed : (l : ℕ) (r : List ℕ) → allowed l r ≡ true → length (encoded l r) ≤ 2 + recordLimit
-length-allowed zero r h = omega (arith, length-variable r, allowed-small 0 r h)
-length-allowed (suc l) r h =
-    let e : length (encoded (suc l) r) ≡ length r = length-fixed (suc l) r (omega arith) in
-    omega (arith, allowed-small (suc l) r h)
+-- of a record of at most m data bytes, whatever the limit m is
+pub encoded-most : (m l : ℕ) (r : List ℕ) → length r ≤ m → length (encoded l r) ≤ 2 + m + m % 2
+encoded-most m zero r h = omega (arith, length-variable r)
+encoded-most m (suc l) r h = omega (arith, length-fixed (suc l) r (omega arith))
 
 -- lists with a part replaced by one as long
 pub put-at : (x o b y : List ℕ) → length b ≡ length o → put (length x) b (x ++ (o ++ y)) ≡ x ++ (b ++ y)

@@ -8,6 +8,9 @@ use crate::session::Session;
 use crate::store::Room;
 use libc::STDIN_FILENO;
 
+// How many bytes of the script are read at once.
+const BLOCK: usize = 4096;
+
 /// How far a line is read: how many of its bytes are kept, whether a space would divide nothing, whether its comment has begun, and
 /// whether it is too long, so that nothing is kept of it.
 pub(crate) struct Mark {
@@ -20,7 +23,7 @@ pub(crate) struct Mark {
 /// Standard input: a block of `got` bytes, of which `at` are read; the line that is being read, and whether it has ended; whether
 /// the input has ended, or failed.
 pub(crate) struct Reader {
-    pub(crate) block: [u8; 4096],
+    pub(crate) block: [u8; BLOCK],
     pub(crate) got: usize,
     pub(crate) at: usize,
     pub(crate) line: [u8; 16640],
@@ -42,7 +45,7 @@ fn begun() -> Mark {
 
 fn untouched() -> Reader {
     Reader {
-        block: [0; 4096],
+        block: [0; BLOCK],
         got: 0,
         at: 0,
         line: [0; 16640],

@@ -15,6 +15,7 @@ use desk::Desk;
 use desk::Reply;
 use desk::answers::accepts;
 use lists::parts::clear;
+use numbers::RECORD_LIMIT;
 
 /// The desk, the image's length, and whether the image was changed; whether it is known that it can be written back; whether the
 /// run is broken, so that nothing is written back; and the line that is to be printed.
@@ -131,9 +132,9 @@ fn request_with(image: &mut [u8], s: Session, call: Call) -> Session {
     )
 }
 
-// The longest buffer that a script may read into. It holds the longest text that can be stored: 1,024 bytes of $FF, 127 spaces
-// each, are 130,048 bytes.
-const LONGEST: usize = 131072;
+// The longest buffer that a script may read into. It holds the longest text that can be stored: as many bytes of $FF as a record may
+// have, 127 spaces each.
+const LONGEST: usize = 128 * RECORD_LIMIT;
 
 // A buffer as it is before a read, made in a function of its own as the room for the image is.
 fn blank() -> [u8; LONGEST] {

@@ -36,7 +36,7 @@ moving e i m img buf = record { bytes = m; from = i; count = units e m; image = 
 unfoldable pub oddLength : ℕ → Bool
 oddLength n = eqb n 0 or not (eqb (n % 256) 0) or ltb (256 * mostMoved) n
 
--- RULES, Status numbers: $84 of a write or update: a contiguous file's as above; over 1,024 bytes or, in a fixed file, not exactly L
+-- RULES, Status numbers: $84 of a write or update: a contiguous file's as above; over the record limit or, in a fixed file, not exactly L
 unfoldable pub wrongLength : List ℕ → List ℕ → Bool
 wrongLength e bs = if contiguous e then oddLength (length bs) else not (allowed (recordLength e) bs)
 

@@ -17,7 +17,7 @@ use Rattle.volume.specs.declared.locate.Layout.{Layout}
 use Rattle.volume.specs.Code.Located.{Located}
 use Rattle.records.specs.Records.{encoded}
 use Rattle.records.proofs.RecordStreams.{allowed-small}
-use Rattle.records.proofs.RecordReplaced.{length-allowed}
+use Rattle.records.proofs.RecordReplaced.{encoded-most}
 use Rattle.ownership.specs.Blocks.{block, total, streamLength, pairs, extendedBy, blockOf}
 use Rattle.ownership.specs.Code.Shapes.{BlockShaped}
 use Rattle.ownership.specs.Owners.{logical}
@@ -26,11 +26,11 @@ use Rattle.ownership.proofs.Segments.{fours-extendedBy}
 use Rattle.files.specs.Files.{stream}
 use Rattle.files.specs.Changes.{longer, needed, newSectors}
 use Rattle.files.specs.Code.Growing.{Adds, Grows}
-use Rattle.files.proofs.appending.NeededSectors.{needed-most, sectors-mono}
+use Rattle.files.proofs.appending.NeededSectors.{sectors-mono, most-new}
 use Rattle.files.proofs.SoundFacts.{Facts}
 use Rattle.files.proofs.SequentialFile.{fab-inside, block-sound, total-is, logical-inside, logical-distinct, length-logical, length-stream}
 use Rattle.files.proofs.taking.LowestFree.{below-few, length-lowest}
-use Rattle.files.proofs.appending.GrownBlock.{blockSound-shaped}
+use Rattle.files.proofs.appending.GrownBlock.{blockSound-shaped, needed-few}
 use Rattle.files.proofs.slot.SlotInUse.{slot-in, used-facts}
 
 module _ (v : List ℕ) (p : Layout) (k : ℕ) (r : List ℕ) (A : Adds v p k r) where
@@ -73,7 +73,16 @@ module _ (v : List ℕ) (p : Layout) (k : ℕ) (r : List ℕ) (A : Adds v p k r)
 
   pub adds-low : length (longer v (entryAt v k) r) < 512 * mostSectors
   unfolding inSectors
-  adds-low = omega (arith, long-longer, length-allowed (recordLength e) r (A .fine), length-stream v F k hk u c, total-is v F k hk u c, length-logical v F k hk u c, few, F .high)
+  adds-low = omega (
+    arith,
+    long-longer,
+    encoded-most recordLimit (recordLength e) r adds-short,
+    length-stream v F k hk u c,
+    total-is v F k hk u c,
+    length-logical v F k hk u c,
+    few,
+    F .high,
+  )
 
   -- the sectors needed
   not-shorter : total (block v e) ≤ inSectors (length (longer v e r))
@@ -88,9 +97,7 @@ module _ (v : List ℕ) (p : Layout) (k : ℕ) (r : List ℕ) (A : Adds v p k r)
   adds-needed n w en ew = (omega (arith, not-shorter), rw (en, ew))
 
   pub adds-most : needed v (entryAt v k) r ≤ mostNew
-  adds-most =
-      needed-most v e r (let a : total (block v e) ≡ inSectors (length (stream v e)) = total-is v F k hk u c ∙ ap inSectors (sym (length-stream v F k hk u c)) in omega arith)
-      (A .fine)
+  adds-most = rw most-new (needed-few v F k hk u c r recordLimit adds-short)
 
   -- the new sectors, as the code has stored them
   pub adds-new : (n : ℕ) (m d : List ℕ) → n ≡ needed v (entryAt v k) r → needed v (entryAt v k) r ≤ free v → m ≡ over (lowest n v) d → take n m ≡ newSectors v (entryAt v k) r

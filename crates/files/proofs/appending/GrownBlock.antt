@@ -8,7 +8,7 @@ use native.Mathlib.Omega.{arith}
 use lib.ListN.{length, length-append}
 use lib.Dec.{ltb}
 use borrow.Author.Tests.{eq-eqb, le-leb, leb-true, eqb-true}
-use Rattle.numbers.specs.Numbers.{mostSegments, mostNew}
+use Rattle.numbers.specs.Numbers.{mostSegments}
 use Rattle.lists.specs.Parts.{inSectors, sectors}
 use Rattle.lists.specs.Lists.{all, sum, flat, among, distinct}
 use Rattle.lists.proofs.Tests.{both-true, and-left, and-right, or-first, or-second}
@@ -17,7 +17,7 @@ use Rattle.lists.proofs.LentParts.{length-sector}
 use Rattle.volume.specs.Volume.{dirs, system}
 use Rattle.volume.specs.Directory.{entries, entryAt, unused, contiguous, start, recordLength}
 use Rattle.volume.specs.Sat.{free}
-use Rattle.records.specs.Records.{allowed, encoded}
+use Rattle.records.specs.Records.{encoded}
 use Rattle.records.proofs.LaidStream.{inside}
 use Rattle.ownership.specs.Blocks.{total, streamLength, pairs, segLength, segmentSound, blockSound, blockOf, block, segment, sectorsOf}
 use Rattle.ownership.specs.Code.Shapes.{BlockShaped, fours}
@@ -97,8 +97,8 @@ module _ (v : List ℕ) (F : Facts v) (k : ℕ) (hk : k < 8 * dirs v) (used : un
       (clear-flip (logical v e) (newSectors v e r) (clear-narrow (logical v e) (owned v e) (newSectors v e r) part-logical (new-not-owned k hk)))
 
   -- how many
-  pub needed-few : allowed (recordLength (entryAt v k)) r ≡ true → needed v (entryAt v k) r ≤ mostNew
-  needed-few fine = needed-most v e r (rw (length-stream v F k hk used seq, total-is v F k hk used seq) (omega arith)) fine
+  pub needed-few : (m : ℕ) → length r ≤ m → needed v (entryAt v k) r ≤ inSectors (2 + m)
+  needed-few m = needed-most m v e r (rw (length-stream v F k hk used seq, total-is v F k hk used seq) (omega arith))
 
   module _ (enough : needed v (entryAt v k) r ≤ free v) where
     pub length-new : length (newSectors v (entryAt v k) r) ≡ needed v (entryAt v k) r

@@ -1,6 +1,5 @@
 -- How many sectors more one append can need.
 use mathlib.Core.Path.{_≡_, refl}
-use mathlib.Core.Bool.{true}
 use mathlib.Core.List.{List}
 use Prim.Native.Nat.{ℕ, _+_, _≤_, _-_, _*_}
 use native.Mathlib.Omega.{arith}
@@ -8,8 +7,8 @@ use lib.ListN.{length, length-append}
 use Rattle.numbers.specs.Numbers.{recordLimit, mostNew}
 use Rattle.lists.specs.Parts.{inSectors}
 use Rattle.volume.specs.Directory.{recordLength}
-use Rattle.records.specs.Records.{allowed, encoded}
-use Rattle.records.proofs.RecordReplaced.{length-allowed}
+use Rattle.records.specs.Records.{encoded}
+use Rattle.records.proofs.RecordReplaced.{encoded-most}
 use Rattle.ownership.specs.Blocks.{block, total}
 use Rattle.files.specs.Files.{stream}
 use Rattle.files.specs.Changes.{longer, needed}
@@ -30,18 +29,20 @@ pub sectors-hold : (a : ℕ) → a ≤ 256 * inSectors a
 unfolding inSectors
 sectors-hold a = omega arith
 
+-- A record of at most m data bytes, whatever the limit m is, takes no more sectors than a count word and m bytes from a sector's start on. The pad byte of
+-- an odd m never opens one more, since a sector ends after an even number of bytes.
+pub encoded-sectors : (m l : ℕ) (r : List ℕ) → length r ≤ m → inSectors (length (encoded l r)) ≤ inSectors (2 + m)
+unfolding inSectors
+encoded-sectors m l r h = omega (arith, encoded-most m l r h)
+
+-- .. nor does its append to a file whose stream lies in its sectors,
+pub needed-most : (m : ℕ) (img e r : List ℕ) → inSectors (length (stream img e)) ≤ total (block img e) → length r ≤ m → needed img e r ≤ inSectors (2 + m)
+unfolding needed longer
+needed-most m img e r h a =
+    rw (length-append (stream img e) (encoded (recordLength e) r))
+    (omega (arith, sectors-more (length (stream img e)) (length (encoded (recordLength e) r)), encoded-sectors m (recordLength e) r a))
+
+-- .. and at the record limit these are the most new sectors of an append
 pub most-new : mostNew ≡ inSectors (2 + recordLimit)
 unfolding inSectors
 most-new = refl
-
-pub encoded-sectors : (l : ℕ) (r : List ℕ) → allowed l r ≡ true → inSectors (length (encoded l r)) ≤ mostNew
-encoded-sectors l r h = rw most-new (sectors-mono (length (encoded l r)) (2 + recordLimit) (length-allowed l r h))
-
-pub append-sectors : (a l : ℕ) (r : List ℕ) → allowed l r ≡ true → inSectors (a + length (encoded l r)) - inSectors a ≤ mostNew
-append-sectors a l r h = omega (arith, sectors-more a (length (encoded l r)), encoded-sectors l r h)
-
--- an append to a file whose stream lies in its sectors
-pub needed-most : (img e r : List ℕ) → inSectors (length (stream img e)) ≤ total (block img e) → allowed (recordLength e) r ≡ true → needed img e r ≤ mostNew
-unfolding needed longer
-needed-most img e r h a =
-    rw (length-append (stream img e) (encoded (recordLength e) r)) (omega (arith, append-sectors (length (stream img e)) (recordLength e) r a))
