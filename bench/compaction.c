@@ -4,12 +4,8 @@
  * first. Nothing is timed unless every record reads the same before and after, and every sector that has to be moved was moved.
  */
 #define _POSIX_C_SOURCE 199309L
-#include <stdint.h>
-#include <stdio.h>
-#include <stdlib.h>
 #include <string.h>
-#include <time.h>
-#include "twynarvel.h"
+#include "calls.h"
 
 enum { SECTOR = TWYNARVEL_SECTOR_BYTES, MOST_SECTORS = 2048, MOST_FILES = 64, MOST_SEGMENTS = 62, USER = 5 };
 enum { VARIABLE = 0, RECORD = SECTOR }; /* records that fill a sector each: 254 bytes after their count word, or 256 */
@@ -17,18 +13,6 @@ enum { VARIABLE = 0, RECORD = SECTOR }; /* records that fill a sector each: 254 
 /* A volume, its desk, and what was made of it. */
 static uint8_t image[SECTOR * MOST_SECTORS], kept[SECTOR * MOST_SECTORS], desk[TWYNARVEL_DESK_BYTES], report[TWYNARVEL_REPORT_BYTES];
 static size_t bytes;
-
-static void fail(const char *what, unsigned long number)
-{
-    printf("bench: %s (%lu)\n", what, number);
-    exit(1);
-}
-
-static void done(const char *call, uint32_t status)
-{
-    if (status != TWYNARVEL_DONE)
-        fail(call, status);
-}
 
 /* ---- volumes, by the library's calls */
 
@@ -159,15 +143,6 @@ static unsigned segments(const struct plan *p)
 
 enum { LEAST_ROUNDS = 20, MOST_ROUNDS = 5000 };
 static const double enough = 1e9; /* nanoseconds in one line of the table */
-
-static double nanoseconds(void)
-{
-    struct timespec t;
-    clock_gettime(CLOCK_MONOTONIC, &t);
-    return 1e9 * (double)t.tv_sec + (double)t.tv_nsec;
-}
-
-static volatile uint32_t sink; /* so that no call can be left out */
 
 /* Each returns a call's time, on a copy of the volume. */
 static double checked(void)

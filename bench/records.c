@@ -1,50 +1,32 @@
 /*
  * Times transfers of one record, from short ones to the longest, by the library's functions for C, and shows how deep the stack gets in them: an
  * append, a read and an update, each of data and of text. The volume is small and has one file of two records, so that little besides the transfer
- * is in the figures. Nothing is timed unless every transfer is done and moves what it was sent.
+ * is in the figures. Nothing is timed unless the transfer is done and the record reads as it has to.
  */
 #define _XOPEN_SOURCE 700
-#include <stdint.h>
-#include <stdio.h>
-#include <stdlib.h>
 #include <string.h>
-#include <time.h>
 #include <ucontext.h>
-#include "twynarvel.h"
+#include "calls.h"
 
 enum { SECTOR = TWYNARVEL_SECTOR_BYTES, BYTES = 64 * SECTOR, USER = 5, MOST = TWYNARVEL_RECORD_BYTES };
 
 static uint8_t image[BYTES], kept[BYTES], desk[TWYNARVEL_DESK_BYTES], kept_desk[TWYNARVEL_DESK_BYTES];
-static uint8_t block[TWYNARVEL_BLOCK_BYTES], sent[MOST], lent[MOST];
+static uint8_t block[TWYNARVEL_BLOCK_BYTES], old[MOST], new[MOST], lent[MOST];
 static size_t length; /* of the record that is timed */
-
-static void fail(const char *what, unsigned long number)
-{
-    printf("bench: %s (%lu)\n", what, number);
-    exit(1);
-}
-
-static void done(const char *call, uint32_t status)
-{
-    if (status != TWYNARVEL_DONE)
-        fail(call, status);
-}
 
 /* ---- one transfer: record 1 is read and updated, record 2 is appended */
 
-static void ask(unsigned function, unsigned options)
+static void ask(unsigned function, unsigned options, unsigned record)
 {
     memset(block, 0, sizeof block);
     block[TWYNARVEL_BLOCK_FUNCTION] = (uint8_t)function;
     options |= function == TWYNARVEL_WRITE ? TWYNARVEL_NEXT : TWYNARVEL_RANDOM;
     block[TWYNARVEL_BLOCK_OPTIONS] = (uint8_t)(options / 256);
     block[TWYNARVEL_BLOCK_OPTIONS + 1] = (uint8_t)options;
-    block[TWYNARVEL_BLOCK_RECORD + 3] = 1;
+    block[TWYNARVEL_BLOCK_RECORD + 3] = (uint8_t)record;
     block[TWYNARVEL_BLOCK_END + 2] = (uint8_t)((length - 1) / 256);
     block[TWYNARVEL_BLOCK_END + 3] = (uint8_t)(length - 1);
 }
-
-static volatile uint32_t sink; /* so that no call can be left out */
 
 static void transfer(void)
 {
@@ -63,13 +45,15 @@ static void prepare(void)
 {
     static const uint8_t name[] = "\0\5        RECORDS DA";
     size_t k;
-    for (k = 0; k < length; k++)
-        sent[k] = (uint8_t)(k % 16 == 15 ? 0x20 : 'A' + k % 26); /* single spaces: a text that is stored in its own length */
-    memcpy(lent, sent, length);
+    for (k = 0; k < length; k++) {
+        old[k] = (uint8_t)(k % 16 == 15 ? 0x20 : 'A' + k % 26); /* single spaces: a text that is stored in its own length */
+        new[k] = (uint8_t)(k % 16 == 15 ? 0x20 : 'a' + k % 26);
+    }
+    memcpy(lent, old, length);
     done("format", twynarvel_format(image, sizeof image, desk, sizeof desk, (const uint8_t *)"BNCH", TWYNARVEL_ID_BYTES, 1));
     done("allocate", twynarvel_allocate(image, sizeof image, desk, sizeof desk, USER, name, TWYNARVEL_DESCRIPTOR_BYTES, TWYNARVEL_SEQUENTIAL, 0, 0, 0));
     done("assign", twynarvel_assign(image, sizeof image, desk, sizeof desk, USER, 0, name, TWYNARVEL_DESCRIPTOR_BYTES, TWYNARVEL_PRPW, 0, 0));
-    ask(TWYNARVEL_WRITE, TWYNARVEL_IMAGE);
+    ask(TWYNARVEL_WRITE, TWYNARVEL_IMAGE, 0);
     transfer();
     done("write", sink);
     transfer();
@@ -78,14 +62,33 @@ static void prepare(void)
     memcpy(kept_desk, desk, sizeof desk);
 }
 
+static void moved(void)
+{
+    done("transfer", sink);
+    if (256u * block[TWYNARVEL_BLOCK_LENGTH + 2] + block[TWYNARVEL_BLOCK_LENGTH + 3] != length)
+        fail("another length was moved", (unsigned long)length);
+}
+
+/* A read has to hand over the old bytes; what is sent are new ones, which then have to be read back. */
 static void tried(unsigned function, unsigned options)
 {
-    ask(function, options);
+    const uint8_t *wanted = function == TWYNARVEL_READ ? old : new;
     restore();
+    memcpy(lent, new, length);
+    ask(function, options, 1);
     transfer();
-    done("transfer", sink);
-    if (256u * block[TWYNARVEL_BLOCK_LENGTH + 2] + block[TWYNARVEL_BLOCK_LENGTH + 3] != length || memcmp(lent, sent, length) != 0)
-        fail("another length or other bytes were moved", (unsigned long)length);
+    moved();
+    if (function != TWYNARVEL_READ) {
+        memset(lent, 0, length);
+        ask(TWYNARVEL_READ, TWYNARVEL_IMAGE, function == TWYNARVEL_WRITE ? 2 : 1);
+        transfer();
+        moved();
+    }
+    if (memcmp(lent, wanted, length) != 0)
+        fail("a record reads otherwise", (unsigned long)length);
+    memcpy(lent, new, length);
+    ask(function, options, 1);
+    restore();
 }
 
 /* ---- the stack: a transfer is run on one that was painted, and what is painted no more was used */
@@ -113,13 +116,6 @@ static void nothing(void) {}
 /* ---- times */
 
 enum { ROUNDS = 2000, TRIES = 60 };
-
-static double nanoseconds(void)
-{
-    struct timespec t;
-    clock_gettime(CLOCK_MONOTONIC, &t);
-    return 1e9 * (double)t.tv_sec + (double)t.tv_nsec;
-}
 
 /* The best of many tries: restoring and transferring, less restoring alone. */
 static double time_of(void)
@@ -160,7 +156,6 @@ int main(void)
             length = lengths[k];
             prepare();
             tried(calls[c].function, calls[c].options);
-            restore();
             printf("%-14s  %6lu  %9.0f  %6lu\n", calls[c].name, (unsigned long)length, time_of(),
                    (unsigned long)(restore(), depth_of(transfer) - depth_of(nothing)));
             fflush(stdout);
