@@ -19,3 +19,4 @@ pub mod SatRuns
 pub mod SearchAnswers
 pub mod Searches
 pub mod Slots
+pub mod UsedSlots

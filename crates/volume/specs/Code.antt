@@ -1,3 +1,4 @@
 pub mod Found
 pub mod Located
 pub mod Searches
+pub mod Used

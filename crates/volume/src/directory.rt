@@ -12,6 +12,8 @@ ghost use Rattle.lists.specs.Parts.{part, put, bytes2, blanks};
 ghost use mathlib.Core.List.{[], _∷_, _++_};
 ghost use mathlib.Core.Bool.{false, not};
 ghost use Rattle.volume.specs.Code.Found.{foundOf};
+ghost use Rattle.volume.specs.Code.Used.{usedSlots};
+use crate::clashes::names_differ;
 use crate::locate::Layout;
 use crate::names::descriptor;
 use lists::parts::all_zero;
@@ -160,74 +162,28 @@ fn entry_good(e: &[u8]) -> bool
     valid(e)
 }
 
-pub fn entries_valid(img: &[u8], p: Layout) -> bool
-    requires { ⌜ Located (now img) p ⌝ }
+/// Is every entry unused or valid? Those in use are looked at.
+pub fn entries_valid(img: &[u8], p: Layout, used: &[u8]) -> bool
+    requires { ⌜ Located (now img) p × (now used ≡ usedSlots (now img)) ⌝ }
     ensures { λ r. ⌜ r ≡ all (λ e. unused e or valid e) (entries (now (img .entry))) ⌝ }
 {
-    let n = 8 * p.dirs;
-    let mut k = 0;
-    while k < n {
-        if !entry_good(entry_of(img, p, k)) {
+    let mut i = 0;
+    while i < used.len() {
+        if !entry_good(entry_of(img, p, wide(used[i]))) {
             return false;
         }
-        k += 1;
+        i += 1;
     }
     true
 }
 
-// Two used entries of one name, the first of which is known to be used.
-fn clash(e: &[u8], d: &[u8]) -> bool
-    requires { ⌜ (length (now e) ≡ 32) × (length (now d) ≡ 32) × (unused (now e) ≡ false) ⌝ }
-    ensures { λ r. ⌜ r ≡ clashes (now (e .entry)) (now (d .entry)) ⌝ }
-{
-    if same_bytes(&e[2..22], &d[2..22]) {
-        return !unused(d);
-    }
-    false
-}
-
-// No later entry has the name of the entry in slot k.
-fn alone(img: &[u8], p: Layout, k: usize) -> bool
-    requires { ⌜ Located (now img) p × (k < 8 * p .dirs) ⌝ }
-    ensures { λ r. ⌜ r ≡ all (λ d. not (clashes (entryAt (now (img .entry)) k) d)) (drop (k + 1) (entries (now (img .entry)))) ⌝ }
-{
-    let e = entry_of(img, p, k);
-    if unused(e) {
-        return true;
-    }
-    let n = 8 * p.dirs;
-    let mut j = k + 1;
-    while j < n {
-        if clash(e, entry_of(img, p, j)) {
-            return false;
-        }
-        j += 1;
-    }
-    true
-}
-
-pub fn names_differ(img: &[u8], p: Layout) -> bool
-    requires { ⌜ Located (now img) p ⌝ }
-    ensures { λ r. ⌜ r ≡ namesDiffer (entries (now (img .entry))) ⌝ }
-{
-    let n = 8 * p.dirs;
-    let mut k = 0;
-    while k < n {
-        if !alone(img, p, k) {
-            return false;
-        }
-        k += 1;
-    }
-    true
-}
-
-/// Point 2 of soundness.
-pub fn directory_sound(img: &[u8], p: Layout) -> bool
-    requires { ⌜ Located (now img) p ⌝ }
+/// Point 2 of soundness, where `used` lists the slots in use.
+pub fn directory_sound(img: &[u8], p: Layout, used: &[u8]) -> bool
+    requires { ⌜ Located (now img) p × (now used ≡ usedSlots (now img)) ⌝ }
     ensures { λ r. ⌜ r ≡ sound2 (now (img .entry)) ⌝ }
 {
-    if entries_valid(img, p) {
-        return names_differ(img, p);
+    if entries_valid(img, p, used) {
+        return names_differ(img, p, used);
     }
     false
 }
