@@ -14,6 +14,7 @@ pub mod MembersReplaced
 pub mod Lists
 pub mod Members
 pub mod Pieces
+pub mod OredBytes
 pub mod PutBytes
 pub mod Puts
 pub mod RangeParts

@@ -1,31 +1,28 @@
--- The loop's invariant: what is left is zero as the whole is.
+-- The loop's invariant: `any` and what is left are zero as the whole is.
 use mathlib.Core.Path.{_≡_, refl, sym, _∙_}
 use Prim.Native.Nat.{_≤_, _-_}
 use native.Mathlib.Omega.{arith}
 use lib.ListN.{length, drop}
+use lib.Dec.{eqb}
 use borrow.Author.Needs.{needs}
-use borrow.Author.Tests.{ne-eqb, eq-eqb}
+use Rattle.lists.specs.Lists.{_and_}
 use Rattle.lists.specs.Parts.{zeros}
-use Rattle.lists.proofs.Walks.{all-stop, all-more, all-end}
+use Rattle.lists.proofs.OredBytes.{or-more, or-end}
 use Rattle.lists.proofs.parts.all_zero.Statement.{statement}
 use Rattle.lists.proofs.parts.all_zero.Tie as tie
 
 abbrev Inv-loop : tie.InvT-loop
-Inv-loop s i₀ i = (i ≤ length s) × (zeros s ≡ zeros (drop i s))
+Inv-loop s any₀ i₀ any i = (i ≤ length s) × (eqb any 0 and zeros (drop i s) ≡ zeros s)
 
 abbrev μ-loop : tie.MeasureT-loop
-μ-loop s i₀ i = length s - i
+μ-loop s any₀ i₀ any i = length s - i
 
 loop-holds : tie.Need-loop-holds Inv-loop μ-loop
+unfolding _and_
 loop-holds c = (search needs, refl)
 
-shared-slice-read-if1 : tie.Need-shared-slice-read-if1 Inv-loop μ-loop
-shared-slice-read-if1 c = search needs
-
-returns : tie.Need-returns Inv-loop μ-loop
-returns c =
-    let l = c .before .before .before .loop in
-    sym (l .inv .1 ∙ all-stop _ _ 0 (l .i) (omega arith) (ne-eqb _ _ (c .if1 .taken)))
+shared-slice-read-any : tie.Need-shared-slice-read-any Inv-loop μ-loop
+shared-slice-read-any c = search needs
 
 add-i : tie.Need-add-i Inv-loop μ-loop
 add-i c = search needs
@@ -35,24 +32,15 @@ loop-less c = search needs
 
 loop-again : tie.Need-loop-again Inv-loop μ-loop
 loop-again c =
-    let l = c .before .before .before .loop in
-    (omega arith, l .inv .1 ∙ all-more _ _ 0 (l .i) (omega arith) (eq-eqb _ _ (c .if1 .left)))
+    let l = c .before .before .loop in
+    (omega arith, sym (or-more (l .any) _ (l .i) (omega arith)) ∙ l .inv .1)
 
-returns-2 : tie.Need-returns-2 Inv-loop μ-loop
-returns-2 c =
+returns : tie.Need-returns Inv-loop μ-loop
+returns c =
     let l = c .before .loop in
-    sym (l .inv .1 ∙ all-end _ _ (l .i) (omega arith))
+    sym (or-end (l .any) _ (l .i) (omega arith)) ∙ l .inv .1
 
 pub all-zero-spec : {M : Type 1} → statement M
 all-zero-spec =
     tie.close
-    (tie.spec
-    Inv-loop
-    μ-loop
-    loop-holds
-    shared-slice-read-if1
-    returns
-    add-i
-    loop-less
-    loop-again
-    returns-2)
+    (tie.spec Inv-loop μ-loop loop-holds shared-slice-read-any add-i loop-less loop-again returns)
