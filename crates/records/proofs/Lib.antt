@@ -8,6 +8,7 @@ pub mod RecordReplaced
 pub mod RecordStreams
 pub mod RecordWalk
 pub mod StreamBytes
+pub mod StreamRuns
 pub mod StreamWrites
 pub mod VariableRecords
 pub mod WalkSteps

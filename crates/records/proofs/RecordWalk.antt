@@ -3,26 +3,28 @@
 use mathlib.Core.Path.{_≡_, refl, ap, _∙_, sym}
 use mathlib.Core.Bool.{true, false}
 use mathlib.Core.List.{List, _∷_, []}
-use Prim.Native.Nat.{ℕ, zero, suc, _+_, _≤_, _<_, _%_}
+use Prim.Native.Nat.{ℕ, zero, suc, _+_, _*_, _≤_, _<_, _%_}
+use native.Mathlib.Nat.{zero-mul, one-mul}
 use native.Mathlib.Omega.{arith}
 use native.Mathlib.Decide.{decLe}
 use lib.ListN.{length, getD, drop, drop-of-length-le, take, length-drop}
 use lib.Seq.{drop-cons, drop-drop}
 use lib.Dec.{eqb, leb}
-use borrow.Author.Tests.{le-leb, lt-leb, eq-eqb, ne-eqb, leb-true}
+use borrow.Author.Tests.{le-leb, lt-leb, leb-true}
 use Rattle.numbers.specs.Numbers.{recordLimit}
-use Rattle.lists.specs.Lists.{_and_, _or_, all}
+use Rattle.lists.specs.Lists.{_and_, all}
 use Rattle.lists.specs.Parts.{part, zeros, word}
-use Rattle.lists.proofs.Tests.{or-first, or-second, not-both, is-false, and-left, and-right}
+use Rattle.lists.proofs.Tests.{is-false, and-left, and-right}
 use Rattle.lists.proofs.Bools.{and-false, and-true}
 use Rattle.records.specs.Records.{whole, cut}
 use Rattle.records.specs.Code.Walk.{pastOf, goodAt, nextAt}
 use Rattle.records.proofs.VariableRecords.{cut-skip, whole-skip, whole-long}
 
-pad-of : (m x : ℕ) (s : List ℕ) → m < 2 → x + m ≤ length s → zeros (part x m s) ≡ eqb m 0 or eqb (getD s x 0) 0
-unfolding part all _or_
-pad-of zero x s h k = refl
-pad-of (suc zero) x s h k = rw (drop-cons s x 0 (omega arith)) (and-true _)
+-- a record's pad byte, where there is one
+pad-of : (m x : ℕ) (s : List ℕ) → m < 2 → x + m ≤ length s → zeros (part x m s) ≡ eqb (m * getD s x 0) 0
+unfolding part all
+pad-of zero x s h k = rw zero-mul
+pad-of (suc zero) x s h k = rw (drop-cons s x 0 (omega arith), one-mul) (and-true _)
 pad-of (suc (suc m)) x s h k = absurd (omega arith)
 
 -- a list from p on, its first two elements apart
@@ -89,18 +91,9 @@ module _ (s : List ℕ) (p n : ℕ) (is : n ≡ word s p) (room : p + 2 ≤ leng
     whole-is = opened ∙ rw (rest, good-is)
 
     module _ (small : n ≤ recordLimit) where
-      pub good-pads : goodAt s p ≡ eqb (n % 2) 0 or eqb (getD s (p + 2 + n) 0) 0
+      pub good-pads : goodAt s p ≡ eqb (n % 2 * getD s (p + 2 + n) 0) 0
       unfolding _and_
       good-pads = good-is ∙ rw (le-leb n recordLimit small) (pad-of (n % 2) (p + 2 + n) s (omega arith) fits)
-
-      pub good-even : n % 2 ≡ 0 → goodAt s p ≡ true
-      good-even h = good-pads ∙ or-first _ _ (eq-eqb (n % 2) 0 h)
-
-      pub good-odd : getD s (p + 2 + n) 0 ≡ 0 → goodAt s p ≡ true
-      good-odd h = good-pads ∙ or-second _ _ (eq-eqb (getD s (p + 2 + n) 0) 0 h)
-
-      pub good-pad : (n % 2 ≡ 0 → ⊥) → (getD s (p + 2 + n) 0 ≡ 0 → ⊥) → goodAt s p ≡ false
-      good-pad h k = good-pads ∙ not-both _ _ (ne-eqb (n % 2) 0 h) (ne-eqb (getD s (p + 2 + n) 0) 0 k)
 
 -- what is left at p, by the record there
 pub good-short : (s : List ℕ) (p : ℕ) → length s < p + 2 → goodAt s p ≡ false

@@ -14,10 +14,7 @@ use Rattle.lists.proofs.Pieces.{flat-at}
 use Rattle.lists.proofs.AreBytes.{Bytes}
 use Rattle.records.specs.Streams.{laidOut}
 use Rattle.records.specs.Code.Mapped.{Mapped}
-
--- the place in the image of the stream's byte p
-abbrev pub addressOf : List ℕ → ℕ → ℕ
-addressOf ss p = 256 * getD ss (p / 256) 0 + p % 256
+use Rattle.records.specs.Code.Runs.{addressOf}
 
 pub byte-sector : (s r : ℕ) (l : List ℕ) → r < 256 → byte (sector s l) r ≡ byte l (256 * s + r)
 unfolding sector part

@@ -1,29 +1,33 @@
 -- The walks' steps and ends, as the code meets them: at a place of a mapped stream.
 use mathlib.Core.Path.{_≡_, ap, sym, _∙_, refl}
-use mathlib.Core.Bool.{true, false, Bool}
+use mathlib.Core.Bool.{true, false, Bool, _||_}
 use mathlib.Core.List.{List, []}
-use Prim.Native.Nat.{ℕ, _+_, _*_, _%_, _≤_, _<_, _/_, suc, zero-le}
+use Prim.Native.Nat.{ℕ, _+_, _*_, _-_, _%_, _≤_, _<_, _/_, suc, zero-le}
 use native.Mathlib.Omega.{arith}
-use native.Mathlib.Decide.{decLt}
-use native.Mathlib.Nat.{mul-suc, mul-le-mul-left, div-add-mod}
+use native.Mathlib.Decide.{decLt, ℕ-discrete}
+use native.Mathlib.Nat.{zero-mul, mul-suc, mul-le-mul-left, div-add-mod}
 use lib.ListN.{length, List·getD-eq-default, drop, getD, length-drop}
 use lib.Seq.{length-take-le, getD-take}
-use borrow.Author.Tests.{eq-eqb, ne-eqb, lt-ltb, le-ltb}
+use lib.Dec.{ltb, eqb}
+use borrow.Author.Tests.{eq-eqb, ne-eqb, lt-ltb, le-ltb, ltb-true, ltb-false}
 use Rattle.numbers.specs.Numbers.{recordLimit}
 use Rattle.lists.specs.Parts.{word, byte, part}
-use Rattle.lists.specs.Lists.{if_then_else_}
+use Rattle.lists.specs.Lists.{if_then_else_, _or_}
 use Rattle.lists.proofs.AreBytes.{Bytes}
+use Rattle.lists.proofs.Bools.{or-is}
+use Rattle.lists.proofs.Tests.{or-cases, or-left, or-right}
 use Rattle.records.specs.Code.Walk.{pastOf, goodAt, nextAt, placeOf, headOf}
 use Rattle.records.specs.Code.Spots.{stepAt, countedOf, spotOf}
 use Rattle.records.specs.declared.record.Step.the-variants.{Next, Bad}
 use Rattle.records.specs.Streams.{laidOut}
 use Rattle.records.specs.Code.Mapped.{Mapped, streamIn}
+use Rattle.records.specs.Code.Runs.{addressOf}
 use Rattle.records.specs.Records.{whole, cut, wholeRecords, recordsOf}
 use Rattle.records.specs.declared.record.Counted.the-variants.{Broken, Whole}
 use Rattle.records.specs.declared.record.Spot.the-variants.{At, Past}
-use Rattle.records.proofs.RecordWalk.{next-is, good-short, good-large, good-past, good-even, good-odd, good-pad, Good, good-facts, whole-good, count-good, whole-bad}
+use Rattle.records.proofs.RecordWalk.{next-is, good-short, good-large, good-past, good-pads, Good, good-facts, whole-good, count-good, whole-bad}
 use Rattle.records.proofs.RecordWalk.{whole-end, cut-end}
-use Rattle.records.proofs.StreamBytes.{addressOf, length-laidOut, laidOut-at}
+use Rattle.records.proofs.StreamBytes.{length-laidOut, laidOut-at}
 use Rattle.records.proofs.RecordStreams.{whole-variable, records-variable, whole-fixed}
 use Rattle.records.proofs.RecordPlaces.{count-fixed, place-fits, place-next, place-more, place-done, place-good, count-at, record-fixed, place-fixed}
 use Rattle.records.proofs.RecordReplaced.{head-variable, head-fixed}
@@ -75,6 +79,13 @@ module _ (img ss : List ℕ) (m : Mapped img ss) (e : ℕ) (fits : e ≤ 256 * l
     | no h ↦ rw (List·getD-eq-default (streamIn img ss e) 0 {n = p} (omega (arith, length-streamIn))) (omega arith)
   ]
 
+  -- a step leads on, within the stream, by an even number of bytes
+  pub step-within : (p q : ℕ) → stepAt (streamIn img ss e) p ≡ Next q → (p + 2 ≤ q) × (q ≤ e) × (q % 2 ≡ p % 2)
+  step-within p q h =
+      let g : (goodAt (streamIn img ss e) p ≡ true) × (q ≡ nextAt (streamIn img ss e) p) = next-good (streamIn img ss e) p q h in
+      let f : Good (streamIn img ss e) p = good-facts (streamIn img ss e) p (g .0) in
+      (omega (arith, f .next), omega (arith, f .next, f .room, length-streamIn), omega (arith, f .next))
+
   -- the outcomes of a step at p
   module _ (p : ℕ) where
     abbrev s : List ℕ
@@ -90,31 +101,50 @@ module _ (img ss : List ℕ) (m : Mapped img ss) (e : ℕ) (fits : e ≤ 256 * l
       room-s : p + 2 ≤ length s
       room-s = omega (arith, length-streamIn)
 
-      pub at-large : recordLimit < n → Bad ≡ stepAt s p
-      at-large h = step-bad s p (good-large s p (omega (arith, here)))
+      -- the record's end past that of the stream; or its count over x, which the code takes for the limit
+      abbrev past : Bool
+      past = ltb (e - p) (2 + n + n % 2)
 
-      pub at-past : e < p + 2 + n + n % 2 → Bad ≡ stepAt s p
-      at-past h = step-bad s p (good-past s p n here room-s (omega (arith, length-streamIn)))
+      too-large : recordLimit < n → Bad ≡ stepAt s p
+      too-large h = step-bad s p (good-large s p (omega (arith, here)))
 
-      module _ (small : n ≤ recordLimit) (ends : p + 2 + n + n % 2 ≤ e) where
-        ends-s : pastOf p n ≤ length s
-        ends-s = omega (arith, length-streamIn)
+      pub at-over : (x : ℕ) → ltb x n || ltb (e - p) (2 + n + n % 2) ≡ true → recordLimit ≤ x → Bad ≡ stepAt s p
+      at-over x h g = elim (decLt x n) [
+        | yes l ↦ too-large (omega arith)
+        | no l ↦
+            let o : e - p < 2 + n + n % 2 = ltb-true _ _ (or-cases (ltb x n) past (sym (or-is (ltb x n) past) ∙ h) (le-ltb x n (omega arith))) in
+            step-bad s p (good-past s p n here room-s (omega (arith, length-streamIn)))
+      ]
 
-        pub at-even : n % 2 ≡ 0 → Next (p + 2 + n + n % 2) ≡ stepAt s p
-        at-even h = step-good s p _ n here refl (good-even s p n here room-s ends-s small h)
+      module _ (x : ℕ) (h : ltb x n || ltb (e - p) (2 + n + n % 2) ≡ false) where
+        neither : ltb x n or past ≡ false
+        neither = sym (or-is (ltb x n) past) ∙ h
 
-        pub at-odd : (n % 2 ≡ 0 → ⊥) → byte all-of (p + 2 + n) ≡ 0 → Next (p + 2 + n + n % 2) ≡ stepAt s p
-        at-odd o h = step-good s p _ n here refl (good-odd s p n here room-s ends-s small (byte-streamIn (p + 2 + n) (omega arith) ∙ h))
+        pub at-ends : p + (2 + n + n % 2) ≤ e
+        at-ends = omega (arith, ltb-false (e - p) (2 + n + n % 2) (or-right (ltb x n) past neither))
 
-        pub at-pad : (n % 2 ≡ 0 → ⊥) → (byte all-of (p + 2 + n) ≡ 0 → ⊥) → Bad ≡ stepAt s p
-        at-pad o h = step-bad s p (good-pad s p n here room-s ends-s small o (λ z. h (sym (byte-streamIn (p + 2 + n) (omega arith)) ∙ z)))
+        -- the byte before the record's end is its pad, where it has one
+        pad-is : n % 2 * byte s (p + 2 + n) ≡ n % 2 * byte all-of (p + (2 + n + n % 2) - 1)
+        pad-is = elim (ℕ-discrete (n % 2) 0) [
+          | yes z ↦ simp (z, zero-mul)
+          | no z ↦
+              let q : p + (2 + n + n % 2) - 1 ≡ p + 2 + n = omega arith in
+              rw (q, byte-streamIn (p + 2 + n) (omega (arith, at-ends)))
+        ]
 
--- a step leads on, within the stream
-pub step-bounds : (s : List ℕ) (p q : ℕ) → stepAt s p ≡ Next q → (p + 2 ≤ q) × (q ≤ length s)
-step-bounds s p q e =
-    let g : (goodAt s p ≡ true) × (q ≡ nextAt s p) = next-good s p q e in
-    let f : Good s p = good-facts s p (g .0) in
-    (omega (arith, f .next), omega (arith, f .next, f .room))
+        good-as : n ≤ recordLimit → goodAt s p ≡ eqb (n % 2 * byte all-of (p + (2 + n + n % 2) - 1)) 0
+        good-as l = good-pads s p n here room-s (omega (arith, at-ends, length-streamIn)) l ∙ ap (λ (y : ℕ). eqb y 0) pad-is
+
+        pub at-pad : (n % 2 * byte all-of (p + (2 + n + n % 2) - 1) ≡ 0 → ⊥) → Bad ≡ stepAt s p
+        at-pad g = elim (decLt recordLimit n) [
+          | yes l ↦ too-large l
+          | no l ↦ step-bad s p (good-as (omega arith) ∙ ne-eqb _ _ g)
+        ]
+
+        pub at-good : x ≤ recordLimit → n % 2 * byte all-of (p + (2 + n + n % 2) - 1) ≡ 0 → Next (p + (2 + n + n % 2)) ≡ stepAt s p
+        at-good l g =
+            let k : n ≤ x = ltb-false x n (or-left (ltb x n) past neither) in
+            step-good s p _ n here (omega arith) (good-as (omega arith) ∙ eq-eqb _ _ g)
 
 -- n records up to p: what is left is whole if the stream is, and has the other records
 pub record Walked (s : List ℕ) (p n : ℕ) : Type 0 where
@@ -199,17 +229,17 @@ module _ (img ss : List ℕ) (m : Mapped img ss) (e : ℕ) (fits : e ≤ 256 * l
   room : p < e → p + 2 + word t p + word t p % 2 ≤ e
   room h = omega (arith, long, found-room t bs w i k p at few (omega (arith, long)))
 
-  pub finds-room : p < e → p + 2 ≤ e
+  finds-room : p < e → p + 2 ≤ e
   finds-room h = omega (arith, room h)
 
   module _ (n : ℕ) (is : n ≡ word (laidOut img ss) p) (h : p < e) where
     word-here : n ≡ word t p
     word-here = is ∙ sym (word-streamIn img ss m e fits p (finds-room h))
 
-    pub finds-next : (p + 2 + n + n % 2 ≡ placeOf 0 (streamIn img ss e) (k + 1)) × (k + 1 ≤ length (recordsOf 0 (streamIn img ss e))) × (p + 2 + n + n % 2 ≤ e)
+    pub finds-next : (p + (2 + n + n % 2) ≡ placeOf 0 (streamIn img ss e) (k + 1)) × (k + 1 ≤ length (recordsOf 0 (streamIn img ss e))) × (p + (2 + n + n % 2) ≤ e)
     finds-next =
         let f = found-next t bs w i k p at few n word-here (omega (arith, long)) in
-        (f .0, f .1, rw word-here (room h))
+        (omega (arith, f .0), f .1, omega (arith, rw (← word-here) at (room h)))
 
     pub finds-at : k ≡ i → At (p + 2) n ≡ spotOf 0 (streamIn img ss e) i
     finds-at q = found-at t bs w i k p at few n word-here q (omega (arith, long))

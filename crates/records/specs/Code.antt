@@ -1,3 +1,4 @@
 pub mod Mapped
+pub mod Runs
 pub mod Spots
 pub mod Walk

@@ -1,14 +1,18 @@
 // The records of a stream: counted, found. Heads and pads are read, data is not.
 ghost use mathlib.Core.Path.{_≡_};
-ghost use Prim.Native.Nat.{_*_, _≤_, _<_};
+ghost use Prim.Native.Nat.{_*_, _%_, _≤_, _<_};
 ghost use lib.ListN.{length};
 ghost use Rattle.records.specs.Code.Mapped.{Mapped, streamIn};
+ghost use Rattle.records.specs.Code.Runs.{runFrom};
 ghost use Rattle.records.specs.Code.Spots.{stepAt, countedOf, spotOf};
 ghost use mathlib.Core.Bool.{true};
 ghost use Rattle.records.specs.Records.{wholeRecords};
 ghost use Rattle.numbers.specs.Numbers.{recordLimit};
-use crate::stream::stream_byte;
-use crate::stream::stream_word;
+use crate::stream::Run;
+use crate::stream::byte_before;
+use crate::stream::run_after;
+use crate::stream::run_at;
+use lists::parts::word_at;
 use numbers::RECORD_LIMIT;
 
 /// The place after a variable record.
@@ -29,30 +33,23 @@ pub enum Spot {
     Past,
 }
 
-// Over the variable record at p.
-fn step_at(img: &[u8], map: &[u16], e: usize, p: usize) -> Step
-    requires { ⌜ Mapped (now img) (now map) × (e ≤ 256 * length (now map)) × (p < e) ⌝ }
+// Over the variable record at p. Its count word lies in one sector, since every record starts at an even place.
+fn step_at(img: &[u8], map: &[u16], e: usize, p: usize, run: Run) -> Step
+    requires { ⌜ Mapped (now img) (now map) × (e ≤ 256 * length (now map)) × (p < e) × (p % 2 ≡ 0) × (run ≡ runFrom (now map) p) ⌝ }
     ensures { λ r. ⌜ r ≡ stepAt (streamIn (now (img .entry)) (now (map .entry)) e) p ⌝ }
 {
     if e - p < 2 {
         return Step::Bad;
     }
-    let n = stream_word(img, map, p);
-    if RECORD_LIMIT < n {
+    let n = word_at(img, run.at);
+    let d = 2 + n + n % 2;
+    if (RECORD_LIMIT < n) | (e - p < d) {
         return Step::Bad;
     }
-    let d = p + 2 + n;
-    let q = d + n % 2;
-    if e < q {
+    if n % 2 * byte_before(img, map, p, run, d) != 0 {
         return Step::Bad;
     }
-    if n % 2 == 0 {
-        return Step::Next(q);
-    }
-    if stream_byte(img, map, d) == 0 {
-        return Step::Next(q);
-    }
-    Step::Bad
+    Step::Next(p + d)
 }
 
 fn walk_variable(img: &[u8], map: &[u16], e: usize) -> Counted
@@ -61,9 +58,11 @@ fn walk_variable(img: &[u8], map: &[u16], e: usize) -> Counted
 {
     let mut p = 0;
     let mut n = 0;
+    let mut run = run_at(map, 0);
     while p < e {
-        match step_at(img, map, e, p) {
+        match step_at(img, map, e, p, run) {
             Step::Next(q) => {
+                run = run_after(map, p, run, q - p);
                 p = q;
             }
             Step::Bad => {
@@ -95,18 +94,21 @@ fn find_variable(img: &[u8], map: &[u16], e: usize, i: usize) -> Spot
 {
     let mut p = 0;
     let mut k = 0;
+    let mut run = run_at(map, 0);
     while k < i {
         if e <= p {
             return Spot::Past;
         }
-        let n = stream_word(img, map, p);
-        p = p + 2 + n + n % 2;
+        let n = word_at(img, run.at);
+        let d = 2 + n + n % 2;
+        run = run_after(map, p, run, d);
+        p += d;
         k += 1;
     }
     if e <= p {
         return Spot::Past;
     }
-    let len = stream_word(img, map, p);
+    let len = word_at(img, run.at);
     Spot::At { from: p + 2, len }
 }
 
