@@ -2,12 +2,11 @@
 use mathlib.Core.List.{[], List, _∷_, _++_}
 use Prim.Native.Nat.{ℕ, zero, suc, _<_, _+_, _/_, _%_, _-_, _*_}
 use native.Mathlib.Omega.{arith}
-use lib.ListN.{take, drop, length, getD}
+use lib.ListN.{take, drop, length, getD, replicate}
 use lib.Seq.{getD-drop}
 use Rattle.lists.specs.Lists.{flat}
 use Rattle.lists.specs.Parts.{blanks, bytes2, filled, part, sector, put, putSector}
 use Rattle.lists.proofs.AreBytes.{Bytes}
-use Rattle.lists.proofs.Blanks.{getD-blanks}
 
 pub bytes-nil : Bytes []
 bytes-nil i = omega arith
@@ -28,8 +27,13 @@ bytes-take (suc n) (x ∷ l) h = bytes-cons x (take n l) (h 0) (bytes-take n l (
 pub bytes-drop : (n : ℕ) (l : List ℕ) → Bytes l → Bytes (drop n l)
 bytes-drop n l h i = rw (getD-drop n l i 0) (h (n + i))
 
+pub bytes-replicate : (n x : ℕ) → x < 256 → Bytes (replicate n x)
+bytes-replicate zero x h = bytes-nil
+bytes-replicate (suc n) x h = bytes-cons x (replicate n x) h (bytes-replicate n x h)
+
 pub bytes-blanks : (n : ℕ) → Bytes (blanks n)
-bytes-blanks n i = rw (getD-blanks n i) (omega arith)
+unfolding blanks
+bytes-blanks n = bytes-replicate n 0 (omega arith)
 
 pub bytes-bytes2 : (w : ℕ) → w < 65536 → Bytes (bytes2 w)
 bytes-bytes2 w h = bytes-cons (w / 256) (w % 256 ∷ []) (omega arith) (bytes-cons (w % 256) [] (omega arith) bytes-nil)

@@ -4,9 +4,9 @@ use mathlib.Core.List.{List, [], _∷_, append-assoc, _++_}
 use Prim.Native.Nat.{ℕ, _+_, _≤_, _<_, _*_, _-_, _/_, _%_}
 use native.Mathlib.Omega.{arith}
 use native.Mathlib.Numerals.{add-one}
-use lib.ListN.{length, length-take, length-drop, take, drop, set, length-append}
+use lib.ListN.{length, length-take, length-drop, take, drop, set, length-append, replicate, length-replicate}
 use lib.Seq.{take-all, sets-eq, take-at, drop-append-add, drop-drop, getD-take, getD-drop}
-use borrow.Rule.Slice.PartMut.{putMid}
+use borrow.Rule.Slice.PartMut.{putMid, mid-len}
 use Rattle.lists.specs.Parts.{byte, part, sector, put, putSector}
 use Rattle.lists.proofs.Puts.{put-mid}
 
@@ -34,11 +34,16 @@ lent-sector s l = lent (256 * s) (256 * s + 256) 256 l refl
 pub wrote : (a e : ℕ) (l b c : List ℕ) → a ≤ e → b ≡ c → length c ≡ e - a → putMid a (e - a) l b ≡ put a c l
 wrote a e l b c h q n = rw q (put-mid a e l c h n)
 
+-- the same, where each of its bytes came back as v
+pub wrote-fill : (a e v : ℕ) (l b : List ℕ) → a ≤ e → e ≤ length l → b ≡ replicate (length (take (e - a) (drop a l))) v
+    → putMid a (e - a) l b ≡ put a (replicate (e - a) v) l
+wrote-fill a e v l b h g q = wrote a e l b (replicate (e - a) v) h (q ∙ ap (λ (n : ℕ). replicate n v) (mid-len a e l g)) (length-replicate (e - a) v)
+
 pub wrote-sector : (s : ℕ) (l b c : List ℕ) → b ≡ c → length c ≡ 256 → putMid (256 * s) (256 * s + 256 - 256 * s) l b ≡ putSector s c l
 unfolding putSector
 wrote-sector s l b c q n = wrote (256 * s) (256 * s + 256) l b c (omega arith) q (omega arith)
 
--- the same, where the callee's contract says what it makes of the part
+-- a sector, where the callee's contract says what it makes of the part
 pub wrote-by : (f : List ℕ → List ℕ) (s : ℕ) (l b : List ℕ) → b ≡ f (take (256 * s + 256 - 256 * s) (drop (256 * s) l)) → length (f (sector s l)) ≡ 256
     → putMid (256 * s) (256 * s + 256 - 256 * s) l b ≡ putSector s (f (sector s l)) l
 wrote-by f s l b q n = wrote-sector s l b (f (sector s l)) (q ∙ ap f (lent-sector s l)) n

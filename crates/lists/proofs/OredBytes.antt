@@ -16,7 +16,7 @@ use Rattle.lists.proofs.Bools.{agree, and-assoc, and-true}
 use Rattle.lists.proofs.Tests.{and-left, and-right, both-true}
 use Rattle.lists.proofs.Walks.{all-end}
 
-or-zero : (a b : ℕ) → eqb (bitOr a b) 0 ≡ eqb a 0 and eqb b 0
+pub or-zero : (a b : ℕ) → eqb (bitOr a b) 0 ≡ eqb a 0 and eqb b 0
 or-zero a b = agree _ _ apart together
   where
     apart : eqb (bitOr a b) 0 ≡ true → eqb a 0 and eqb b 0 ≡ true

@@ -19,4 +19,5 @@ pub mod SatRuns
 pub mod SearchAnswers
 pub mod Searches
 pub mod Slots
+pub mod TablesSame
 pub mod UsedSlots

@@ -6,4 +6,3 @@ pub mod RunHunt
 pub mod RunQuads
 pub mod SearchStops
 pub mod TableQuads
-pub mod TablesSame

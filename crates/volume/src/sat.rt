@@ -7,7 +7,7 @@ ghost use Rattle.numbers.specs.Numbers.{mostSectors};
 ghost use Rattle.lists.specs.Parts.{sector, putSector};
 ghost use Rattle.volume.specs.Sat.{marked, withBit, withBits};
 ghost use Rattle.lists.specs.Lists.{range, same};
-use crate::quads::quad_at;
+use lists::parts::fill;
 
 // Bit k of a byte, counted from the top.
 fn bit(b: u8, k: usize) -> bool
@@ -59,40 +59,64 @@ pub fn clear_mark(sat: &mut [u8], s: usize)
     sat[at] = without_bit(b, s % 8);
 }
 
-/// Marks n sectors from s on, eight at once where they are a byte.
-pub fn mark_run(sat: &mut [u8], s: usize, n: usize)
+// Marks n sectors from s on, one by one.
+fn mark_bits(sat: &mut [u8], s: usize, n: usize)
     requires { ⌜ (length (now sat) ≡ 256) × (s + n ≤ mostSectors) ⌝ }
     ensures { λ _. ⌜ now (sat .exit) ≡ withBits 1 (now (sat .entry)) (range s n) ⌝ }
 {
     let end = s + n;
     let mut i = s;
     while i < end {
-        if (i % 8 == 0) & (i + 8 <= end) {
-            sat[i / 8] = 255;
-            i += 8;
-        } else {
-            set_mark(sat, i);
-            i += 1;
-        }
+        set_mark(sat, i);
+        i += 1;
     }
 }
 
-/// Frees n sectors from s on, eight at once where they are a byte.
-pub fn free_run(sat: &mut [u8], s: usize, n: usize)
+// Frees n sectors from s on, one by one.
+fn free_bits(sat: &mut [u8], s: usize, n: usize)
     requires { ⌜ (length (now sat) ≡ 256) × (s + n ≤ mostSectors) ⌝ }
     ensures { λ _. ⌜ now (sat .exit) ≡ withBits 0 (now (sat .entry)) (range s n) ⌝ }
 {
     let end = s + n;
     let mut i = s;
     while i < end {
-        if (i % 8 == 0) & (i + 8 <= end) {
-            sat[i / 8] = 0;
-            i += 8;
-        } else {
-            clear_mark(sat, i);
-            i += 1;
-        }
+        clear_mark(sat, i);
+        i += 1;
     }
+}
+
+/// Marks n sectors from s on: the bytes that they fill at once, the others bit by bit.
+pub fn mark_run(sat: &mut [u8], s: usize, n: usize)
+    requires { ⌜ (length (now sat) ≡ 256) × (s + n ≤ mostSectors) ⌝ }
+    ensures { λ _. ⌜ now (sat .exit) ≡ withBits 1 (now (sat .entry)) (range s n) ⌝ }
+{
+    let end = s + n;
+    let a = (s + 7) / 8;
+    let e = end / 8;
+    if e <= a {
+        mark_bits(sat, s, n);
+        return;
+    }
+    mark_bits(sat, s, 8 * a - s);
+    fill(&mut sat[a..e], 255);
+    mark_bits(sat, 8 * e, end - 8 * e);
+}
+
+/// Frees n sectors from s on: the bytes that they fill at once, the others bit by bit.
+pub fn free_run(sat: &mut [u8], s: usize, n: usize)
+    requires { ⌜ (length (now sat) ≡ 256) × (s + n ≤ mostSectors) ⌝ }
+    ensures { λ _. ⌜ now (sat .exit) ≡ withBits 0 (now (sat .entry)) (range s n) ⌝ }
+{
+    let end = s + n;
+    let a = (s + 7) / 8;
+    let e = end / 8;
+    if e <= a {
+        free_bits(sat, s, n);
+        return;
+    }
+    free_bits(sat, s, 8 * a - s);
+    fill(&mut sat[a..e], 0);
+    free_bits(sat, 8 * e, end - 8 * e);
 }
 
 /// Marks n sectors from s on in the table at sector `sat` of an image.
@@ -115,17 +139,16 @@ pub fn free_in(img: &mut [u8], sat: usize, s: usize, n: usize)
     free_run(&mut img[at..end], s, n);
 }
 
-/// Are two tables the same? Eight bytes are compared at once.
+/// Are two tables the same? Every byte is compared, so that the compiler compares many at once.
 pub fn same_table(a: &[u8], b: &[u8]) -> bool
     requires { ⌜ (length (now a) ≡ 256) × (length (now b) ≡ 256) ⌝ }
     ensures { λ r. ⌜ r ≡ same (now (a .entry)) (now (b .entry)) ⌝ }
 {
-    let mut q = 0;
-    while q < 32 {
-        if quad_at(a, q) != quad_at(b, q) {
-            return false;
-        }
-        q += 1;
+    let mut any: u8 = 0;
+    let mut i = 0;
+    while i < 256 {
+        any = any | (a[i] ^ b[i]);
+        i += 1;
     }
-    true
+    any == 0
 }
