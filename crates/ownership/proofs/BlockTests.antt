@@ -83,3 +83,8 @@ module _ (img e : List ℕ) (t : ℕ) (long : length img ≡ 256 * t) where
 -- what the checker says of a part up to the end
 pub rest-lent : (l : List ℕ) (k : ℕ) → take (length l - k) (drop k l) ≡ drop k l
 rest-lent l k = let n : length (drop k l) ≤ length l - k = simp length-drop (omega arith) in take-all (length l - k) (drop k l) n
+
+-- an unused entry points nowhere
+pub unused-placed : (img e : List ℕ) → unused e ≡ true → placed img e ≡ true
+unfolding placed
+unused-placed img e u = rw u

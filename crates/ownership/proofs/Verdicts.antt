@@ -4,10 +4,12 @@ use mathlib.Core.Bool.{true, false, Bool}
 use mathlib.Core.List.{List}
 use Prim.Native.Nat.{ℕ}
 use native.Mathlib.Omega.{arith}
+use lib.ListN.{length}
 use Rattle.lists.specs.Lists.{if_then_else_, _and_}
 use Rattle.lists.proofs.Tests.{and-left, and-right, both-true}
 use Rattle.volume.specs.Directory.{sound2}
 use Rattle.volume.specs.Code.Located.{Located}
+use Rattle.volume.specs.Code.Used.{usedSlots}
 use Rattle.volume.specs.declared.locate.Layout.{Layout}
 use Rattle.volume.specs.Volume.{sound1, layoutOf}
 use Rattle.volume.proofs.Located.{located-sound, layout-is}
@@ -35,27 +37,31 @@ unfolding ownerSound
 owner-by img p s = both-true _ _ (both-true _ _ (both-true _ _ (s .located .sound-1) (s .point2)) (s .point3)) (s .point5)
 
 -- a verdict, both ways
-pub judged-sound : (img : List ℕ) (p : Layout) → OwnerSound img p → Sound p ≡ judgedOf img
+pub judged-sound : (img : List ℕ) (p : Layout) (n : ℕ) → Located img p → n ≡ length (usedSlots img) → ownerSound img ≡ true → Sound p n ≡ judgedOf img
 unfolding judgedOf
-judged-sound img p s = rw (owner-by img p s, layout-is img p (s .located))
+judged-sound img p n l e h = rw (h, layout-is img p l, e)
 
 pub judged-unsound : (img : List ℕ) → ownerSound img ≡ false → Unsound ≡ judgedOf img
 unfolding judgedOf
 judged-unsound img h = rw h
 
-pub sound-judged : (img : List ℕ) (p : Layout) → judgedOf img ≡ Sound p → OwnerSound img p
+pub sound-judged : (img : List ℕ) (p : Layout) (n : ℕ) → judgedOf img ≡ Sound p n → OwnerSound img p × (n ≡ length (usedSlots img)) × (ownerSound img ≡ true)
 unfolding judgedOf
-sound-judged img p e = go (ownerSound img) refl e
+sound-judged img p n e = go (ownerSound img) refl e
   where
-    go : (b : Bool) → ownerSound img ≡ b → (if b then Sound (layoutOf img) else Unsound) ≡ Sound p → OwnerSound img p
-    go true h e = let q : layoutOf img ≡ p = cc in rw q at (owner-sound img h)
+    go : (b : Bool) → ownerSound img ≡ b → (if b then Sound (layoutOf img) (length (usedSlots img)) else Unsound) ≡ Sound p n
+        → OwnerSound img p × (n ≡ length (usedSlots img)) × (ownerSound img ≡ true)
+    go true h e =
+        let q : layoutOf img ≡ p = cc in
+        let m : n ≡ length (usedSlots img) = cc in
+        (rw q at (owner-sound img h), m, h)
     go false h e = absurd (let z : _≡_ {A = ℕ} 0 1 = cc in omega arith)
 
 pub unsound-judged : (img : List ℕ) → judgedOf img ≡ Unsound → ownerSound img ≡ false
 unfolding judgedOf
 unsound-judged img e = go (ownerSound img) refl e
   where
-    go : (b : Bool) → ownerSound img ≡ b → (if b then Sound (layoutOf img) else Unsound) ≡ Unsound → ownerSound img ≡ false
+    go : (b : Bool) → ownerSound img ≡ b → (if b then Sound (layoutOf img) (length (usedSlots img)) else Unsound) ≡ Unsound → ownerSound img ≡ false
     go true h e = absurd (let z : _≡_ {A = ℕ} 0 1 = cc in omega arith)
     go false h e = h
 
@@ -97,3 +103,8 @@ module _ (img : List ℕ) where
   pub fails-5 : sound5 img ≡ false → ownerSound img ≡ false
   unfolding ownerSound fails
   fails-5 h = no-4 (sound1 img) (sound2 img) (sound3 img) (sound5 img) h
+
+  -- where the others hold, all hangs on the last
+  pub owner-by-5 : sound1 img ≡ true → sound2 img ≡ true → sound3 img ≡ true → ownerSound img ≡ sound5 img
+  unfolding ownerSound _and_
+  owner-by-5 a b c = rw (a, b, c)

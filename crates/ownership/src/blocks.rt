@@ -11,11 +11,13 @@ ghost use mathlib.Core.List.{[], _∷_, _++_};
 ghost use Rattle.lists.specs.Lists.{range};
 ghost use lib.ListN.{length};
 ghost use Rattle.volume.specs.Code.Located.{Located};
+ghost use Rattle.volume.specs.Code.Used.{usedSlots};
 use lists::parts::all_zero;
 use lists::parts::long_at;
 use lists::parts::put_long;
 use lists::parts::put_word;
 use lists::parts::sector_of;
+use lists::parts::wide;
 use lists::parts::word_at;
 use numbers::MOST_SEGMENTS;
 use volume::directory::contiguous;
@@ -194,19 +196,18 @@ pub fn placed(img: &[u8], t: usize, e: &[u8]) -> bool
     false
 }
 
-/// Point 3 of soundness but for the streams' tails.
-pub fn blocks_sound(img: &[u8], p: Layout) -> bool
-    requires { ⌜ Located (now img) p ⌝ }
+/// Point 3 of soundness but for the streams' tails, where `used` lists the slots in use.
+pub fn blocks_sound(img: &[u8], p: Layout, used: &[u8]) -> bool
+    requires { ⌜ Located (now img) p × (now used ≡ usedSlots (now img)) ⌝ }
     ensures { λ r. ⌜ r ≡ sound3 (now (img .entry)) ⌝ }
 {
     let t = p.t;
-    let n = 8 * p.dirs;
-    let mut k = 0;
-    while k < n {
-        if !placed(img, t, entry_of(img, p, k)) {
+    let mut i = 0;
+    while i < used.len() {
+        if !placed(img, t, entry_of(img, p, wide(used[i]))) {
             return false;
         }
-        k += 1;
+        i += 1;
     }
     true
 }

@@ -10,6 +10,7 @@ ghost use Rattle.ownership.specs.Code.Claims.{Claims, fresh};
 ghost use Rattle.ownership.specs.Blocks.{sectorsOf, blockSound, placed, sound3};
 ghost use Rattle.volume.specs.Directory.{entries, entryAt};
 ghost use Rattle.volume.specs.Code.Located.{Located, LaidOut};
+ghost use Rattle.volume.specs.Code.Used.{usedSlots};
 ghost use Rattle.volume.specs.Volume.{systemOf, sat};
 ghost use Rattle.volume.specs.Sat.{free, withBits, putSat};
 ghost use Rattle.ownership.specs.Code.Held.{heldBy};
@@ -20,6 +21,7 @@ use crate::blocks::seg_start;
 use crate::blocks::segments;
 use lists::parts::copy_in;
 use lists::parts::sector_of;
+use lists::parts::wide;
 use volume::directory::contiguous;
 use volume::directory::entry_of;
 use volume::directory::size;
@@ -98,18 +100,17 @@ fn claim_entry(marks: &mut [u8], img: &[u8], t: usize, e: &[u8]) -> bool
 }
 
 // Claims what the entries of the directory own.
-fn claim_entries(marks: &mut [u8], img: &[u8], p: Layout) -> bool
-    requires { ⌜ (length (now marks) ≡ 256) × Located (now img) p × (sound3 (now img) ≡ true) ⌝ }
+fn claim_entries(marks: &mut [u8], img: &[u8], p: Layout, used: &[u8]) -> bool
+    requires { ⌜ (length (now marks) ≡ 256) × Located (now img) p × (sound3 (now img) ≡ true) × (now used ≡ usedSlots (now img)) ⌝ }
     ensures { λ r. ⌜ Claims (flat (owned (now (img .entry))) (entries (now (img .entry)))) (now (marks .entry)) r (now (marks .exit)) ⌝ }
 {
     let t = p.t;
-    let n = 8 * p.dirs;
-    let mut k = 0;
-    while k < n {
-        if !claim_entry(marks, img, t, entry_of(img, p, k)) {
+    let mut i = 0;
+    while i < used.len() {
+        if !claim_entry(marks, img, t, entry_of(img, p, wide(used[i]))) {
             return false;
         }
-        k += 1;
+        i += 1;
     }
     true
 }
@@ -132,9 +133,9 @@ fn claim_system(marks: &mut [u8], p: Layout) -> bool
 }
 
 // Claims all that is owned, over marks of which only the first t are freed.
-fn claim_all(marks: &mut [u8], img: &[u8], p: Layout) -> bool
+fn claim_all(marks: &mut [u8], img: &[u8], p: Layout, used: &[u8]) -> bool
     requires { ⌜ (length (now marks) ≡ 256) × (now marks ≡ replicate 256 255) × Located (now img) p
-        × (sound3 (now img) ≡ true) ⌝ }
+        × (sound3 (now img) ≡ true) × (now used ≡ usedSlots (now img)) ⌝ }
     ensures { λ r. ⌜ Claims (allOwned (now (img .entry))) (fresh (p .t)) r (now (marks .exit)) ⌝ }
 {
     let t = p.t;
@@ -142,16 +143,17 @@ fn claim_all(marks: &mut [u8], img: &[u8], p: Layout) -> bool
     if !claim_system(marks, p) {
         return false;
     }
-    claim_entries(marks, img, p)
+    claim_entries(marks, img, p, used)
 }
 
-/// Point 5 of soundness, in one pass over the owners. The marks have the SAT's form, and are compared with it as a whole.
-pub fn owners_sound(img: &[u8], p: Layout) -> bool
-    requires { ⌜ Located (now img) p × (sound3 (now img) ≡ true) ⌝ }
+/// Point 5 of soundness, in one pass over the owners, where `used` lists the slots in use. The marks have the SAT's form, and are compared
+/// with it as a whole.
+pub fn owners_sound(img: &[u8], p: Layout, used: &[u8]) -> bool
+    requires { ⌜ Located (now img) p × (sound3 (now img) ≡ true) × (now used ≡ usedSlots (now img)) ⌝ }
     ensures { λ r. ⌜ r ≡ sound5 (now (img .entry)) ⌝ }
 {
     let mut marks = [255u8; 256];
-    if !claim_all(&mut marks, img, p) {
+    if !claim_all(&mut marks, img, p, used) {
         return false;
     }
     let sat = p.sat;

@@ -17,7 +17,7 @@ same-length c = search needs
 
 returns : tie.Need-returns
 returns c =
-    let before = c .before .before .before .before .before .before .before .before .before .before .before in
+    let before = c .before .before .before .before .before .before .before .before .before .before .before .before in
     let free-run = c .before .before .before .before .before .before .before .free-run in
     let s = before in
     let a = s .args in
@@ -33,7 +33,7 @@ same-length-2 c = search needs
 
 returns-2 : tie.Need-returns-2
 returns-2 c =
-    let before = c .before .before .before .before .before .before .before .before .before .before .before .before .before .before .before in
+    let before = c .before .before .before .before .before .before .before .before .before .before .before .before .before .before .before .before in
     let free-run = c .before .before .before .before .before .before .before .before .before .before .before .free-run in
     let claim-system = c .before .before .before .before .before .before .before .claim-system in
     let if1 = c .before .before .before .before .if1 in

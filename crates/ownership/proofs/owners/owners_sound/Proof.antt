@@ -16,7 +16,7 @@ claim-all-requires c κs = search needs
 
 returns : tie.Need-returns
 returns c =
-    let before = c .before .before .before .before .before in
+    let before = c .before .before .before .before .before .before in
     let s = before in
     let k = c .before .before .claim-all in
     owned-twice _ _ (s .pre .0) (s .pre .1) _ (rw (not-true (k .result) (c .if1 .taken)) at (k .ensures))
@@ -29,13 +29,13 @@ slice-aggregate-same-table c = search needs
 
 same-table-requires : tie.Need-same-table-requires
 same-table-requires c κs =
-    let before = c .before .before .before .before .before .before .before in
+    let before = c .before .before .before .before .before .before .before .before in
     let s = before in
     (ap length (c .before .sector-of .ensures) ∙ length-sector _ _ (omega (arith, s .pre .0 .long, s .pre .0 .sat-in)), search needs)
 
 returns-2 : tie.Need-returns-2
 returns-2 c =
-    let before = c .before .before .before .before .before .before .before .before in
+    let before = c .before .before .before .before .before .before .before .before .before in
     let claim-all = c .before .before .before .before .before .claim-all in
     let s = before in
     let k = claim-all in
