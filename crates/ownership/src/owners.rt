@@ -19,7 +19,9 @@ ghost use Rattle.lists.specs.Parts.{sector, putSector};
 use crate::blocks::seg_length;
 use crate::blocks::seg_start;
 use crate::blocks::segments;
+use lists::parts::all_zero;
 use lists::parts::copy_in;
+use lists::parts::fill;
 use lists::parts::sector_of;
 use lists::parts::wide;
 use volume::directory::contiguous;
@@ -36,29 +38,42 @@ use volume::sat::same_table;
 use volume::sat::set_mark;
 use volume::search::free_count;
 
-// Claims n sectors from s on, eight at once where they are a byte; false where one of them is owned already.
-fn claim_run(marks: &mut [u8], s: usize, n: usize) -> bool
+// Claims n sectors from s on, one by one; false where one of them is owned already.
+fn claim_bits(marks: &mut [u8], s: usize, n: usize) -> bool
     requires { ⌜ (length (now marks) ≡ 256) × (s + n ≤ mostSectors) ⌝ }
     ensures { λ r. ⌜ Claims (range s n) (now (marks .entry)) r (now (marks .exit)) ⌝ }
 {
     let end = s + n;
     let mut i = s;
     while i < end {
-        if (i % 8 == 0) & (i + 8 <= end) {
-            if marks[i / 8] != 0 {
-                return false;
-            }
-            marks[i / 8] = 255;
-            i += 8;
-        } else {
-            if marked(marks, i) {
-                return false;
-            }
-            set_mark(marks, i);
-            i += 1;
+        if marked(marks, i) {
+            return false;
         }
+        set_mark(marks, i);
+        i += 1;
     }
     true
+}
+
+// Claims n sectors from s on: the bytes that they fill at once, the others bit by bit.
+fn claim_run(marks: &mut [u8], s: usize, n: usize) -> bool
+    requires { ⌜ (length (now marks) ≡ 256) × (s + n ≤ mostSectors) ⌝ }
+    ensures { λ r. ⌜ Claims (range s n) (now (marks .entry)) r (now (marks .exit)) ⌝ }
+{
+    let end = s + n;
+    let a = (s + 7) / 8;
+    let e = end / 8;
+    if e <= a {
+        return claim_bits(marks, s, n);
+    }
+    if !claim_bits(marks, s, 8 * a - s) {
+        return false;
+    }
+    if !all_zero(&marks[a..e]) {
+        return false;
+    }
+    fill(&mut marks[a..e], 255);
+    claim_bits(marks, 8 * e, end - 8 * e)
 }
 
 // Claims the segments of an access block.

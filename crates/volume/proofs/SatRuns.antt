@@ -8,7 +8,7 @@ use native.Mathlib.Nat.{zero-add, add-zero}
 use native.Mathlib.Omega.{arith}
 use native.Mathlib.Decide.{decLt}
 use lib.Dec.{eqb}
-use lib.ListN.{length, set, take, drop, replicate, length-replicate, getD-replicate}
+use lib.ListN.{length, take, drop, replicate, length-replicate, getD-replicate}
 use borrow.Rule.Slice.PartMut.{putMid}
 use borrow.Author.Tests.{eqb-true}
 use Rattle.numbers.specs.Numbers.{mostSectors}
@@ -19,7 +19,7 @@ use Rattle.lists.proofs.ByteLists.{bytes-replicate, bytes-put}
 use Rattle.lists.proofs.Keeps.{range-out}
 use Rattle.lists.proofs.LentParts.{wrote-fill}
 use Rattle.lists.proofs.PutBytes.{byte-put-inside, byte-put-outside}
-use Rattle.lists.proofs.Puts.{length-put, put-one}
+use Rattle.lists.proofs.Puts.{length-put}
 use Rattle.lists.proofs.RangeParts.{among-range}
 use Rattle.lists.proofs.Ranges.{range-cons, range-end, range-below}
 use Rattle.volume.specs.Sat.{marked, withBit, withBits}
@@ -36,7 +36,7 @@ unfolding withBits
 withBits-end v b i e h = rw (range-end i e h)
 
 -- a run in two; and in three, the sectors of the bytes from a up to e in the middle
-pub range-split : (i m n : ℕ) → range i (m + n) ≡ range i m ++ range (i + m) n
+range-split : (i m n : ℕ) → range i (m + n) ≡ range i m ++ range (i + m) n
 unfolding range
 range-split i zero n = rw (zero-add n, add-zero i)
 range-split i (suc m) n =
@@ -102,10 +102,6 @@ module _ (v : ℕ) (b : List ℕ) (hv : v < 2) (hb : Bytes b) (long : length b �
     withBits-bytes =
         marks-are _ _ (length-withBits v b (range (8 * a) (8 * n)) ∙ long) (length-put a (replicate n (255 * v)) b in-table ∙ long)
         (bytes-withBits v b (range (8 * a) (8 * n)) hv hb long numbers) (bytes-put a _ b (bytes-replicate n (255 * v) (omega arith)) hb) made-marks
-
-  -- one byte
-  pub withBits-byte : (q : ℕ) → q < 256 → withBits v b (range (8 * q) 8) ≡ set b q (255 * v)
-  withBits-byte q h = withBits-bytes q 1 (omega arith) ∙ sym (put-one q (255 * v) b (omega arith))
 
 -- a run, as the code makes it: the bits before its bytes from a up to e, these as a part that is lent and filled, and the bits after them
 pub withBits-run : (v : ℕ) (b c d r : List ℕ) → v < 2 → Bytes b → length b ≡ 256 → (s n a e : ℕ) → s + n ≤ mostSectors → s ≤ 8 * a → a ≤ e → 8 * e ≤ s + n

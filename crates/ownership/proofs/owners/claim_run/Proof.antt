@@ -1,141 +1,137 @@
-use mathlib.Core.Path.{_≡_, sym, ap, _∙_}
-use mathlib.Core.Bool.{Bool, not}
-use mathlib.Core.List.{List}
-use Prim.Native.Nat.{ℕ, _+_, _-_, _%_, _≤_}
-use native.Mathlib.Nat.{add-sub-cancel-left}
+use mathlib.Core.Path.{sym, _∙_}
+use Prim.Native.Nat.{_+_, _/_}
 use native.Mathlib.Omega.{arith}
-use lib.ListN.{length, length-set}
-use borrow.Author.Tests.{eqb-true, leb-true}
 use borrow.Author.Needs.{needs}
-use Rattle.lists.specs.Lists.{range}
-use Rattle.lists.proofs.Bools.{and-is}
-use Rattle.lists.proofs.Tests.{and-left, and-right}
-use Rattle.volume.specs.Sat.{isFree}
-use Rattle.ownership.specs.Code.Claims.{Claims}
-use Rattle.ownership.proofs.ClaimedRuns.{run-more, run-fails, run-none, eight-more, eight-fails}
+use borrow.Author.Tests.{not-true, not-false}
+use Rattle.ownership.proofs.ClaimedRuns.{before-fails, bytes-fail, bytes-then}
 use Rattle.ownership.proofs.owners.claim_run.Statement.{statement}
 use Rattle.ownership.proofs.owners.claim_run.Tie as tie
 
-abbrev Inv-loop : tie.InvT-loop
-Inv-loop marks₀ s n end i₀ marks i =
-    (s ≤ i) × (i ≤ end) × (length marks ≡ 256)
-    × ((r : Bool) (m : List ℕ) → Claims (range i (end - i)) marks r m → Claims (range s n) marks₀ r m)
-
-abbrev μ-loop : tie.MeasureT-loop
-μ-loop marks₀ s n end i₀ marks i = end - i
-
-add-end : tie.Need-add-end Inv-loop μ-loop
+add-end : tie.Need-add-end
 add-end c = search needs
 
-loop-holds : tie.Need-loop-holds Inv-loop μ-loop
-loop-holds c = (search needs, search needs, c .before .pre .0, (λ r m q. rw add-sub-cancel-left at q))
+add-a : tie.Need-add-a
+add-a c = search needs
 
-add-if1 : tie.Need-add-if1 Inv-loop μ-loop
-add-if1 c = search needs
+claim-bits-requires : tie.Need-claim-bits-requires
+claim-bits-requires c κs = search needs
 
-slice-read-if2 : tie.Need-slice-read-if2 Inv-loop μ-loop
-slice-read-if2 c = search needs
-
-same-length : tie.Need-same-length Inv-loop μ-loop
+same-length : tie.Need-same-length
 same-length c = search needs
 
-returns : tie.Need-returns Inv-loop μ-loop
-returns c =
-    let start = c .before .before .before .before .before .before in
-    let l = c .before .before .before .before .loop in
-    let both = sym (and-is _ _) ∙ c .before .before .if1 .taken in
-    let e = start .args .s + start .args .n in
-    let whole : l .i % 8 ≡ 0 = eqb-true _ _ (and-left _ _ both) in
-    let fits : l .i + 8 ≤ e = leb-true _ _ (and-right _ _ both) in
-    l .inv .3 _ _ (eight-fails (l .marks) (l .i) (λ i. c .before .slice-known2 .given i .fits) (l .inv .2) whole (omega (arith, start .pre .1)) e fits (c .if2 .taken))
+returns : tie.Need-returns
+returns c = search needs
 
-slice-write-marks : tie.Need-slice-write-marks Inv-loop μ-loop
-slice-write-marks c = search needs
+mul-claim-bits : tie.Need-mul-claim-bits
+mul-claim-bits c = search needs
 
-add-i : tie.Need-add-i Inv-loop μ-loop
-add-i c = search needs
+sub-claim-bits : tie.Need-sub-claim-bits
+sub-claim-bits c = search needs
 
-loop-less : tie.Need-loop-less Inv-loop μ-loop
-loop-less c = search needs
+claim-bits-requires-2 : tie.Need-claim-bits-requires-2
+claim-bits-requires-2 c κs = search needs
 
-loop-again : tie.Need-loop-again Inv-loop μ-loop
-loop-again c =
-    let start = c .before .before .before .before .before .before in
-    let l = c .before .before .before .before .loop in
-    let both = sym (and-is _ _) ∙ c .before .before .if1 .taken in
-    let e = start .args .s + start .args .n in
-    let whole : l .i % 8 ≡ 0 = eqb-true _ _ (and-left _ _ both) in
-    let fits : l .i + 8 ≤ e = leb-true _ _ (and-right _ _ both) in
-    let known = c .before .slice-known2 .given in (
-      omega arith,
-      fits,
-      simp length-set (l .inv .2),
-      (λ r m q. l .inv .3 r m (eight-more (l .marks) (l .i) (λ i. known i .fits) (l .inv .2) whole (omega (arith, start .pre .1)) e fits (c .if2 .left) q)),
-    )
-
-marked-requires : tie.Need-marked-requires Inv-loop μ-loop
-marked-requires c κs = search needs
-
-same-length-2 : tie.Need-same-length-2 Inv-loop μ-loop
+same-length-2 : tie.Need-same-length-2
 same-length-2 c = search needs
 
-returns-2 : tie.Need-returns-2 Inv-loop μ-loop
-unfolding isFree
+returns-2 : tie.Need-returns-2
 returns-2 c =
-    let l = c .before .before .before .before .before .loop in
-    l .inv .3 _ _ (run-fails (omega arith) (ap not (sym (c .before .marked .ensures) ∙ c .if3 .taken)))
+    let k = c .before .before .before .claim-bits2 in
+    let args = c .before .before .before .before .before .before .before .args in
+    before-fails _ _ (args .s) (args .n) _ ((args .s + args .n) / 8) (omega arith) (omega arith) (omega arith) (rw (not-true (k .result) (c .if2 .taken)) at (k .ensures))
 
-set-mark-requires : tie.Need-set-mark-requires Inv-loop μ-loop
-set-mark-requires c κs = search needs
+sub-all-zero : tie.Need-sub-all-zero
+sub-all-zero c = search needs
 
-add-i-2 : tie.Need-add-i-2 Inv-loop μ-loop
-add-i-2 c = search needs
+part-all-zero-start : tie.Need-part-all-zero-start
+part-all-zero-start c = search needs
 
-loop-less-2 : tie.Need-loop-less-2 Inv-loop μ-loop
-loop-less-2 c = search needs
+part-all-zero-end : tie.Need-part-all-zero-end
+part-all-zero-end c = search needs
 
-loop-again-2 : tie.Need-loop-again-2 Inv-loop μ-loop
-unfolding isFree
-loop-again-2 c =
-    let l = c .before .before .before .before .before .before .before .before .before .loop in
-    let k = c .before .before .set-mark in
-    let miss = ap not (sym (c .before .before .before .before .before .marked .ensures) ∙ c .before .before .before .before .if3 .left) in (
-      omega arith,
-      omega arith,
-      k .kept .0 ∙ l .inv .2,
-      (λ r m q. l .inv .3 r m (run-more (omega arith) miss (rw (k .ensures) at q))),
-    )
+all-zero-requires : tie.Need-all-zero-requires
+all-zero-requires c κs = search needs
 
-same-length-3 : tie.Need-same-length-3 Inv-loop μ-loop
+same-length-3 : tie.Need-same-length-3
 same-length-3 c = search needs
 
-returns-3 : tie.Need-returns-3 Inv-loop μ-loop
+returns-3 : tie.Need-returns-3
 returns-3 c =
-    let l = c .before .loop in
-    l .inv .3 _ _ (run-none (omega arith))
+    let zero = c .before .all-zero in
+    let met = c .before .before .before .before in
+    let k = met .before .before .before .claim-bits2 in
+    let start = met .before .before .before .before .before .before .before in
+    bytes-fail _ _ (start .args .s) (start .args .n) _ _ (omega arith) (omega arith) (omega arith)
+    (λ i. met .before .slice-known3 .given i .fits) (k .kept .0 ∙ start .pre .0) (start .pre .1)
+    (rw (not-false (k .result) (met .if2 .left)) at (k .ensures)) (sym (zero .ensures) ∙ not-true (zero .result) (c .if3 .taken))
+
+sub-fill : tie.Need-sub-fill
+sub-fill c = search needs
+
+part-fill-start : tie.Need-part-fill-start
+part-fill-start c = search needs
+
+part-fill-end : tie.Need-part-fill-end
+part-fill-end c = search needs
+
+fill-requires : tie.Need-fill-requires
+fill-requires c κs = search needs
+
+mul-claim-bits-2 : tie.Need-mul-claim-bits-2
+mul-claim-bits-2 c = search needs
+
+mul-claim-bits-3 : tie.Need-mul-claim-bits-3
+mul-claim-bits-3 c = search needs
+
+sub-claim-bits-2 : tie.Need-sub-claim-bits-2
+sub-claim-bits-2 c = search needs
+
+claim-bits-requires-3 : tie.Need-claim-bits-requires-3
+claim-bits-requires-3 c κs = search needs
+
+same-length-4 : tie.Need-same-length-4
+same-length-4 c = search needs
+
+returns-4 : tie.Need-returns-4
+returns-4 c =
+    let end = c .before .before .claim-bits3 in
+    let filled = c .before .before .before .before .before .before in
+    let clear = filled .before .before in
+    let zero = clear .before .all-zero in
+    let met = clear .before .before .before .before in
+    let k = met .before .before .before .claim-bits2 in
+    let start = met .before .before .before .before .before .before .before in
+    bytes-then _ _ (start .args .s) (start .args .n) _ _ (omega arith) (omega arith) (omega arith)
+    (λ i. met .before .slice-known3 .given i .fits) (k .kept .0 ∙ start .pre .0) (start .pre .1)
+    (rw (not-false (k .result) (met .if2 .left)) at (k .ensures)) (sym (zero .ensures) ∙ not-false (zero .result) (clear .if3 .left)) (filled .fill .ensures) (end .ensures)
 
 pub claim-run-spec : {M : Type 1} → statement M
 claim-run-spec =
     tie.close
     (tie.spec
-    Inv-loop
-    μ-loop
     add-end
-    loop-holds
-    add-if1
-    slice-read-if2
+    add-a
+    claim-bits-requires
     same-length
     returns
-    slice-write-marks
-    add-i
-    loop-less
-    loop-again
-    marked-requires
+    mul-claim-bits
+    sub-claim-bits
+    claim-bits-requires-2
     same-length-2
     returns-2
-    set-mark-requires
-    add-i-2
-    loop-less-2
-    loop-again-2
+    sub-all-zero
+    part-all-zero-start
+    part-all-zero-end
+    all-zero-requires
     same-length-3
-    returns-3)
+    returns-3
+    sub-fill
+    part-fill-start
+    part-fill-end
+    fill-requires
+    mul-claim-bits-2
+    mul-claim-bits-3
+    sub-claim-bits-2
+    claim-bits-requires-3
+    same-length-4
+    returns-4)
