@@ -1,13 +1,12 @@
--- A loop that goes up a list: tests of its elements, two lists compared, one filled or copied.
-use mathlib.Core.Path.{_≡_, refl, ap, sym, _∙_}
+-- A loop that goes up a list: tests of its elements, two lists compared, one filled.
+use mathlib.Core.Path.{_≡_, refl, ap, _∙_}
 use mathlib.Core.Bool.{Bool, true, false}
 use mathlib.Core.List.{List, [], _∷_, _++_, append-nil}
 use Prim.Native.Nat.{ℕ, _+_, _<_, _≤_, suc}
 use native.Mathlib.Numerals.{add-one}
 use native.Mathlib.Omega.{arith}
-use native.Mathlib.Nat.{zero-add}
-use lib.ListN.{length, getD, drop, drop-of-length-le, replicate, take, set}
-use lib.Seq.{drop-cons, drop-length, paste-suc}
+use lib.ListN.{length, getD, drop, drop-of-length-le, replicate}
+use lib.Seq.{drop-cons, drop-length}
 use lib.Dec.{eqb}
 use borrow.Author.Tests.{eq-eqb, ne-eqb}
 use Rattle.lists.specs.Lists.{_and_, all, same}
@@ -49,7 +48,7 @@ module _ (a b : List ℕ) (i : ℕ) where
   unfolding same
   same-end h g = rw (drop-of-length-le a h, drop-of-length-le b g)
 
--- a list filled to its end, one byte more of a copy
+-- a list filled to its end; written over whole
 pub fill-all : (v : ℕ) (d : List ℕ) (i : ℕ) → i ≤ length d → length d ≤ i → replicate i v ++ drop i d ≡ replicate (length d) v
 fill-all v d i h g = let e : i ≡ length d = omega arith in rw (e, drop-length d, append-nil)
 
@@ -72,8 +71,3 @@ all-both p q (x ∷ xs) = both (p x) (q x) (all p xs) (all q xs) ∙ ap (λ (b :
     both true true c e = refl
     both true false c e = and-false c
     both false b c e = refl
-
-pub copy-more : (part src : List ℕ) (i : ℕ) → i < length part → i < length src → set (take i src ++ drop i part) i (getD src i 0) ≡ take (i + 1) src ++ drop (i + 1) part
-copy-more part src i h g =
-    ap (λ (n : ℕ). set (take i src ++ drop n part) n (getD src i 0)) (sym (zero-add i))
-    ∙ paste-suc part 0 src i 0 (rw (zero-add i) h) g ∙ rw (zero-add, add-one i)

@@ -1,4 +1,5 @@
 pub mod ChunkWritten
+pub mod CopiedParts
 pub mod FixedRecords
 pub mod ImageBySectors
 pub mod LaidLength

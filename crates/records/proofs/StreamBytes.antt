@@ -1,15 +1,15 @@
 -- The bytes of a mapped stream: its length, and where in the image each byte stands.
-use mathlib.Core.Path.{_≡_, _∙_, refl}
+use mathlib.Core.Path.{_≡_, _∙_, refl, ap, sym}
 use mathlib.Core.List.{List, [], _∷_}
 use Prim.Native.Nat.{ℕ, _+_, _*_, _/_, _%_, _<_, suc, _≤_}
 use native.Mathlib.Omega.{arith}
 use lib.ListN.{getD, drop, length, length-append}
-use lib.Seq.{getD-take, getD-drop}
+use lib.Seq.{ext-getD, getD-take, getD-drop}
 use mir.Val.{Fits}
 use mir.Syntax.{w8}
 use Rattle.lists.specs.Parts.{byte, part, sector}
 use Rattle.lists.specs.Lists.{flat}
-use Rattle.lists.proofs.LentParts.{length-sector}
+use Rattle.lists.proofs.LentParts.{length-part, length-sector, byte-part}
 use Rattle.lists.proofs.Pieces.{flat-at}
 use Rattle.lists.proofs.AreBytes.{Bytes}
 use Rattle.records.specs.Streams.{laidOut}
@@ -40,6 +40,23 @@ module _ (img ss : List ℕ) (m : Mapped img ss) where
 
   pub address-in : (p : ℕ) → p < 256 * length ss → addressOf ss p < length img
   address-in p h = omega (arith, m .inside (p / 256) (omega arith))
+
+  -- n bytes from q on in one sector
+  module _ (q n : ℕ) (here : q < 256 * length ss) (one : q % 256 + n ≤ 256) where
+    pub piece-in : addressOf ss q + n ≤ length img
+    piece-in = omega (arith, m .inside (q / 256) (omega arith))
+
+    piece-byte : (j : ℕ) → j < n → byte (part (addressOf ss q) n img) j ≡ byte (part q n (laidOut img ss)) j
+    piece-byte j h =
+        let z : (q + j) / 256 ≡ q / 256 = omega arith in
+        let e : addressOf ss (q + j) ≡ addressOf ss q + j = rw z (omega arith) in
+        byte-part (addressOf ss q) n img j h ∙ ap (byte img) (sym e) ∙ sym (laidOut-at (q + j) (omega arith)) ∙ sym (byte-part q n (laidOut img ss) j h)
+
+    pub piece-is : part (addressOf ss q) n img ≡ part q n (laidOut img ss)
+    piece-is =
+        let a : length (part (addressOf ss q) n img) ≡ n = length-part (addressOf ss q) n img piece-in in
+        let b : length (part q n (laidOut img ss)) ≡ n = length-part q n (laidOut img ss) (omega (arith, length-laidOut)) in
+        ext-getD 0 _ _ (a ∙ sym b) (λ j h. piece-byte j (omega arith))
 
 -- what the checker knows of a slice of bytes
 pub known : (l : List ℕ) → ((i : ℕ) → Fits w8 (getD l i 0)) → Bytes l

@@ -9,7 +9,7 @@ ghost use Rattle.records.specs.Code.Mapped.{Mapped, writtenAt};
 use crate::stream::wide16;
 use lists::parts::copy_in;
 
-fn least(a: usize, b: usize) -> usize
+pub fn least(a: usize, b: usize) -> usize
     ensures { λ r. ⌜ r ≡ min a b ⌝ }
 {
     if a < b {
@@ -18,7 +18,8 @@ fn least(a: usize, b: usize) -> usize
     b
 }
 
-fn copy_at(part: &mut [u8], r: usize, src: &[u8])
+// Over the bytes of a part from r on.
+pub fn copy_at(part: &mut [u8], r: usize, src: &[u8])
     requires { ⌜ r + length (now src) ≤ length (now part) ⌝ }
     ensures { λ _. ⌜ now (part .exit) ≡ put r (now (src .entry)) (now (part .entry)) ⌝ }
 {

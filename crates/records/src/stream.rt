@@ -7,24 +7,24 @@ ghost use Rattle.records.specs.Streams.{laidOut};
 ghost use Rattle.numbers.specs.Numbers.{mostSectors};
 ghost use Rattle.records.specs.Code.Mapped.{Mapped};
 ghost use Rattle.records.specs.Code.Runs.{runFrom, runEnd};
+use crate::chunks::copy_at;
+use crate::chunks::least;
 use lists::parts::wide;
 
-fn narrow(x: usize) -> u8
-    requires { ⌜ x < 256 ⌝ }
-    ensures { λ r. ⌜ r ≡ x ⌝ }
-{
-    x as u8
-}
-
-/// Copies `len` bytes of the stream from `from` on.
+/// Copies `len` bytes of the stream from `from` on, the part of each sector that they lie in at once.
 pub fn read_record(img: &[u8], map: &[u16], from: usize, len: usize, buf: &mut [u8])
     requires { ⌜ Mapped (now img) (now map) × (from + len ≤ 256 * length (now map)) × (len ≤ length (now buf)) ⌝ }
     ensures { λ _. ⌜ now (buf .exit) ≡ over (part from len (laidOut (now (img .entry)) (now (map .entry)))) (now (buf .entry)) ⌝ }
 {
     let mut i = 0;
     while i < len {
-        buf[i] = narrow(stream_byte(img, map, from + i));
-        i += 1;
+        let q = from + i;
+        let r = q % 256;
+        let n = least(256 - r, len - i);
+        let at = 256 * wide16(map[q / 256]) + r;
+        let end = at + n;
+        copy_at(buf, i, &img[at..end]);
+        i += n;
     }
 }
 
