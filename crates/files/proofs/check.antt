@@ -1,2 +1,3 @@
+pub mod FileTails
 pub mod FileVerdicts
 pub mod SoundVerdict

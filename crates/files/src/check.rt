@@ -4,24 +4,28 @@ ghost use mathlib.Core.Path.{_≡_};
 ghost use mathlib.Core.Bool.{true, false};
 ghost use Prim.Native.Nat.{_*_, _≤_};
 ghost use lib.ListN.{length, drop};
-ghost use Rattle.lists.specs.Parts.{zeros};
+ghost use Rattle.lists.specs.Parts.{zeros, inSectors};
 ghost use Rattle.records.specs.Streams.{laidOut};
 ghost use Rattle.records.specs.Code.Mapped.{Mapped, streamIn};
 ghost use Rattle.ownership.specs.Blocks.{sound3};
 ghost use Rattle.files.specs.Code.Opens.{Opens};
 ghost use Rattle.volume.specs.Directory.{unused, contiguous, start, entries};
 ghost use Rattle.volume.specs.Code.Located.{Located};
+ghost use Rattle.volume.specs.Code.Used.{usedSlots};
 ghost use Rattle.ownership.specs.Owners.{allOwned};
 ghost use Rattle.files.specs.Code.Verdict.{countsAs, contentOf, streamCount, fileSound, soundAt, checkedOf};
 use crate::map::load_map;
 use crate::map::stream_end;
+use lists::parts::all_zero;
+use lists::parts::wide;
+use numbers::MOST_FILES;
 use numbers::MOST_SECTORS;
 use ownership::judge::Judged;
 use ownership::judge::judge;
 use ownership::owners::free_sectors;
 use records::record::Counted;
 use records::record::walk;
-use records::stream::stream_byte;
+use records::stream::wide16;
 use volume::directory::contiguous;
 use volume::directory::entry_of;
 use volume::directory::record_count;
@@ -47,25 +51,24 @@ fn counts_as(c: Counted, n: usize) -> bool
     }
 }
 
-// The stream's bytes from e on, fewer than a sector's.
+// The stream's bytes from e on, all in its last sector.
 fn tail_zero(img: &[u8], map: &[u16], e: usize) -> bool
-    requires { ⌜ Mapped (now img) (now map) × (e ≤ 256 * length (now map)) ⌝ }
+    requires { ⌜ Mapped (now img) (now map) × (length (now map) ≡ inSectors e) ⌝ }
     ensures { λ r. ⌜ r ≡ zeros (drop e (laidOut (now (img .entry)) (now (map .entry)))) ⌝ }
 {
-    let end = 256 * map.len();
-    let mut p = e;
-    while p < end {
-        if stream_byte(img, map, p) != 0 {
-            return false;
-        }
-        p += 1;
+    let r = e % 256;
+    if r == 0 {
+        return true;
     }
-    true
+    let last = 256 * wide16(map[e / 256]);
+    let at = last + r;
+    let end = last + 256;
+    all_zero(&img[at..end])
 }
 
 // The records of length l that the stream's first e bytes are, if nothing but zeros comes after them.
 fn content_count(img: &[u8], map: &[u16], l: usize, e: usize) -> Counted
-    requires { ⌜ Mapped (now img) (now map) × (e ≤ 256 * length (now map)) ⌝ }
+    requires { ⌜ Mapped (now img) (now map) × (length (now map) ≡ inSectors e) ⌝ }
     ensures { λ r. ⌜ r ≡ contentOf (zeros (drop e (laidOut (now (img .entry)) (now (map .entry))))) l
         (streamIn (now (img .entry)) (now (map .entry)) e) ⌝ }
 {
@@ -101,18 +104,18 @@ pub fn file_sound(img: &[u8], e: &[u8]) -> bool
     counts_as(c, record_count(e))
 }
 
-/// Are all files' tails, records and record counts sound?
-pub fn contents_sound(img: &[u8], p: Layout) -> bool
-    requires { ⌜ Located (now img) p × (sound3 (now img) ≡ true) × (distinct (allOwned (now img)) ≡ true) ⌝ }
+/// Are all files' tails, records and record counts sound? `used` lists the slots in use.
+pub fn contents_sound(img: &[u8], p: Layout, used: &[u8]) -> bool
+    requires { ⌜ Located (now img) p × (sound3 (now img) ≡ true) × (distinct (allOwned (now img)) ≡ true)
+        × (now used ≡ usedSlots (now img)) ⌝ }
     ensures { λ r. ⌜ r ≡ all (fileSound (now (img .entry))) (entries (now (img .entry))) ⌝ }
 {
-    let n = 8 * p.dirs;
-    let mut k = 0;
-    while k < n {
-        if !file_sound(img, entry_of(img, p, k)) {
+    let mut i = 0;
+    while i < used.len() {
+        if !file_sound(img, entry_of(img, p, wide(used[i]))) {
             return false;
         }
-        k += 1;
+        i += 1;
     }
     true
 }
@@ -121,11 +124,12 @@ pub fn contents_sound(img: &[u8], p: Layout) -> bool
 pub fn locate_sound(img: &[u8]) -> Where
     ensures { λ r. ⌜ r ≡ soundAt (now (img .entry)) ⌝ }
 {
-    let verdict = judge(img);
-    let Judged::Sound(p) = verdict else {
+    let mut used = [0u8; MOST_FILES];
+    let verdict = judge(img, &mut used);
+    let Judged::Sound { p, files: n } = verdict else {
         return Where::Nowhere;
     };
-    if contents_sound(img, p) {
+    if contents_sound(img, p, &used[..n]) {
         return Where::At(p);
     }
     Where::Nowhere

@@ -83,8 +83,9 @@ pub fn bring_up(img: &mut [u8]) -> bool
     ensures { λ r. ⌜ (r ≡ soundBefore (now (img .entry)))
         × (now (img .exit) ≡ (if soundBefore (now (img .entry)) then broughtUp (now (img .entry)) else now (img .entry))) ⌝ }
 {
-    let verdict = judge(img);
-    let Judged::Sound(p) = verdict else {
+    let mut used = [0u8; MOST_FILES];
+    let verdict = judge(img, &mut used);
+    let Judged::Sound { p, files: _ } = verdict else {
         return false;
     };
     let mut counts = [0usize; MOST_FILES];

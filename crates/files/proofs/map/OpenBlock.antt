@@ -59,6 +59,11 @@ module _ (img : List ℕ) (s : ℕ) (o : Opens img s) where
       pub loaded : Mapped img (take n m) × (e ≤ 256 * length (take n m))
       loaded = rw (loaded-map, ee) (o .mapped, o .ends)
 
+      pub loaded-whole : Mapped img (take n m) × (length (take n m) ≡ inSectors e)
+      loaded-whole =
+          let f : List ℕ = sector s img in
+          rw (loaded-map, ee) (o .mapped, length-sectors mostSectors f (o .block-sound) ∙ block-facts mostSectors f (o .block-sound) .rounded)
+
       -- what was done with them was done with the file's
       pub loaded-as : {A : Type 0} (f : List ℕ → ℕ → A) → f (take n m) e ≡ f (sectorsOf (sector s img)) (streamLength (sector s img))
       loaded-as f = rw (loaded-map, ee)

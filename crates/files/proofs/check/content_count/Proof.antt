@@ -1,6 +1,8 @@
 use mathlib.Core.Path.{sym, _∙_}
 use borrow.Author.Needs.{needs}
 use Rattle.files.specs.Code.Verdict.{contentOf}
+use Rattle.files.proofs.check.FileTails.{tail-within}
+use Rattle.files.proofs.check.FileTails.{tail-within}
 use Rattle.files.proofs.check.content_count.Statement.{statement}
 use Rattle.files.proofs.check.content_count.Tie as tie
 
@@ -8,7 +10,9 @@ tail-zero-requires : tie.Need-tail-zero-requires
 tail-zero-requires c κs = search needs
 
 walk-requires : tie.Need-walk-requires
-walk-requires c κs = search needs
+walk-requires c κs =
+    let s = c .before .before .before .before in
+    (s .pre .0, tail-within _ _ (s .pre .0) _ (s .pre .1))
 
 returns : tie.Need-returns
 unfolding contentOf

@@ -11,7 +11,7 @@ use Rattle.records.specs.Streams.{laidOut}
 use Rattle.records.specs.Code.Mapped.{streamIn}
 use Rattle.files.specs.Code.Opens.{storedAt, streamAt}
 use Rattle.files.specs.Code.Verdict.{contentOf, streamCount}
-use Rattle.files.proofs.map.OpenBlock.{loaded-few, loaded, loaded-as}
+use Rattle.files.proofs.map.OpenBlock.{loaded-few, loaded-whole, loaded-as}
 use Rattle.files.proofs.check.stream_count.Statement.{statement}
 use Rattle.files.proofs.check.stream_count.Tie as tie
 
@@ -46,7 +46,7 @@ slice-aggregate-content-count c =
 content-count-requires : tie.Need-content-count-requires
 content-count-requires c κs =
     let pre = c .before .before .before .before .before .before .pre in
-    loaded _ _ (pre) _ _ _ (c .before .before .before .load-map .ensures .0)
+    loaded-whole _ _ (pre) _ _ _ (c .before .before .before .load-map .ensures .0)
     (c .before .before .before .load-map .ensures .1) _ (c .before .stream-end .ensures .0)
 
 returns : tie.Need-returns
