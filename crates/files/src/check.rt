@@ -31,7 +31,6 @@ use volume::directory::entry_of;
 use volume::directory::record_count;
 use volume::directory::record_length;
 use volume::directory::start;
-use volume::directory::unused;
 use volume::locate::Layout;
 use volume::locate::Where;
 
@@ -89,14 +88,11 @@ pub fn stream_count(img: &[u8], s: usize, l: usize) -> Counted
     content_count(img, &map[..n], l, e)
 }
 
-/// Are the tail, the records and the record count of an entry's file sound?
+/// Are the tail, the records and the record count of the file of an entry in use sound?
 pub fn file_sound(img: &[u8], e: &[u8]) -> bool
-    requires { ⌜ (length (now e) ≡ 32) × (unused (now e) ≡ false → contiguous (now e) ≡ false → Opens (now img) (start (now e))) ⌝ }
+    requires { ⌜ (length (now e) ≡ 32) × (unused (now e) ≡ false) × (contiguous (now e) ≡ false → Opens (now img) (start (now e))) ⌝ }
     ensures { λ r. ⌜ r ≡ fileSound (now (img .entry)) (now (e .entry)) ⌝ }
 {
-    if unused(e) {
-        return true;
-    }
     if contiguous(e) {
         return true;
     }

@@ -10,6 +10,7 @@ ghost use Rattle.ownership.specs.Code.Shapes.{withPairs, segmentsFit, Ex
 ghost use mathlib.Core.List.{[], _∷_, _++_};
 ghost use Rattle.lists.specs.Lists.{range};
 ghost use lib.ListN.{length};
+ghost use Rattle.volume.specs.Directory.{unused};
 ghost use Rattle.volume.specs.Code.Located.{Located};
 ghost use Rattle.volume.specs.Code.Used.{usedSlots};
 use lists::parts::all_zero;
@@ -24,7 +25,6 @@ use volume::directory::contiguous;
 use volume::directory::entry_of;
 use volume::directory::size;
 use volume::directory::start;
-use volume::directory::unused;
 use volume::locate::Layout;
 
 /// How many segments there are.
@@ -180,12 +180,9 @@ pub fn block_sound(f: &[u8], t: usize) -> bool
 
 /// Does what a used entry points to lie on the volume, and is its access block sound?
 pub fn placed(img: &[u8], t: usize, e: &[u8]) -> bool
-    requires { ⌜ (length (now img) ≡ 256 * t) × (length (now e) ≡ 32) ⌝ }
+    requires { ⌜ (length (now img) ≡ 256 * t) × (length (now e) ≡ 32) × (unused (now e) ≡ false) ⌝ }
     ensures { λ r. ⌜ r ≡ placed (now (img .entry)) (now (e .entry)) ⌝ }
 {
-    if unused(e) {
-        return true;
-    }
     let s = start(e);
     if contiguous(e) {
         return s + size(e) <= t;

@@ -1,6 +1,6 @@
 // Who owns which sector: no sector twice, and the SAT marks exactly the owned ones.
 ghost use mathlib.Core.Path.{_≡_};
-ghost use mathlib.Core.Bool.{true};
+ghost use mathlib.Core.Bool.{true, false};
 ghost use Prim.Native.Nat.{_+_, _≤_, _<_, _*_};
 ghost use lib.ListN.{length, replicate};
 ghost use Rattle.numbers.specs.Numbers.{mostSectors};
@@ -8,7 +8,7 @@ ghost use Rattle.lists.specs.Lists.{range, flat};
 ghost use Rattle.ownership.specs.Owners.{owned, allOwned, sound5};
 ghost use Rattle.ownership.specs.Code.Claims.{Claims, fresh};
 ghost use Rattle.ownership.specs.Blocks.{sectorsOf, blockSound, placed, sound3};
-ghost use Rattle.volume.specs.Directory.{entries, entryAt};
+ghost use Rattle.volume.specs.Directory.{entries, entryAt, unused};
 ghost use Rattle.volume.specs.Code.Located.{Located, LaidOut};
 ghost use Rattle.volume.specs.Code.Used.{usedSlots};
 ghost use Rattle.volume.specs.Volume.{systemOf, sat};
@@ -94,15 +94,12 @@ fn claim_block(marks: &mut [u8], f: &[u8], t: usize) -> bool
     true
 }
 
-// Claims what an entry owns.
+// Claims what an entry in use owns.
 fn claim_entry(marks: &mut [u8], img: &[u8], t: usize, e: &[u8]) -> bool
     requires { ⌜ (length (now marks) ≡ 256) × (length (now img) ≡ 256 * t) × (t ≤ mostSectors) × (length (now e) ≡ 32)
-        × (placed (now img) (now e) ≡ true) ⌝ }
+        × (placed (now img) (now e) ≡ true) × (unused (now e) ≡ false) ⌝ }
     ensures { λ r. ⌜ Claims (owned (now (img .entry)) (now (e .entry))) (now (marks .entry)) r (now (marks .exit)) ⌝ }
 {
-    if unused(e) {
-        return true;
-    }
     let s = start(e);
     if contiguous(e) {
         let n = size(e);

@@ -152,16 +152,6 @@ pub fn valid(e: &[u8]) -> bool
         & extent_good(e)
 }
 
-fn entry_good(e: &[u8]) -> bool
-    requires { ⌜ length (now e) ≡ 32 ⌝ }
-    ensures { λ r. ⌜ r ≡ unused (now (e .entry)) or valid (now (e .entry)) ⌝ }
-{
-    if unused(e) {
-        return true;
-    }
-    valid(e)
-}
-
 /// Is every entry unused or valid? Those in use are looked at.
 pub fn entries_valid(img: &[u8], p: Layout, used: &[u8]) -> bool
     requires { ⌜ Located (now img) p × (now used ≡ usedSlots (now img)) ⌝ }
@@ -169,7 +159,7 @@ pub fn entries_valid(img: &[u8], p: Layout, used: &[u8]) -> bool
 {
     let mut i = 0;
     while i < used.len() {
-        if !entry_good(entry_of(img, p, wide(used[i]))) {
+        if !valid(entry_of(img, p, wide(used[i]))) {
             return false;
         }
         i += 1;

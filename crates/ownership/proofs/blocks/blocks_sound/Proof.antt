@@ -9,8 +9,9 @@ use borrow.Author.Needs.{needs}
 use borrow.Author.Tests.{not-true, not-false}
 use Rattle.lists.specs.Lists.{all}
 use Rattle.lists.proofs.Walks.{all-stop, all-more, all-end}
+use Rattle.volume.specs.Directory.{unused}
 use Rattle.volume.specs.Code.Used.{usedEntries}
-use Rattle.volume.proofs.UsedSlots.{all-used, listed-below, listed-entry, listed-few, listed-length, listed-long}
+use Rattle.volume.proofs.UsedSlots.{all-used, listed-below, listed-entry, listed-few, listed-length, listed-long, listed-used}
 use Rattle.ownership.specs.Blocks.{placed, sound3}
 use Rattle.ownership.proofs.BlockTests.{unused-placed}
 use Rattle.ownership.proofs.blocks.blocks_sound.Statement.{statement}
@@ -47,6 +48,8 @@ placed-requires c κs =
       s .pre .0 .long,
       ap length (q ∙ listed-entry _ _ (s .pre .0) _ (s .pre .1) (l .i) (omega arith))
           ∙ listed-long _ _ (s .pre .0) _ (s .pre .1) (l .i) (omega arith),
+      ap unused (q ∙ listed-entry _ _ (s .pre .0) _ (s .pre .1) (l .i) (omega arith))
+          ∙ listed-used _ _ (s .pre .0) _ (s .pre .1) (l .i) (omega arith),
     )
 
 returns : tie.Need-returns Inv-loop μ-loop

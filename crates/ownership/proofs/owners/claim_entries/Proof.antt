@@ -9,9 +9,9 @@ use denote.Ref.{now}
 use borrow.Author.Needs.{needs}
 use borrow.Author.Tests.{not-true, not-false}
 use Rattle.lists.specs.Lists.{flat}
-use Rattle.volume.specs.Directory.{entries}
+use Rattle.volume.specs.Directory.{entries, unused}
 use Rattle.volume.specs.Code.Used.{usedEntries}
-use Rattle.volume.proofs.UsedSlots.{flat-used, listed-below, listed-entry, listed-few, listed-length, listed-long}
+use Rattle.volume.proofs.UsedSlots.{flat-used, listed-below, listed-entry, listed-few, listed-length, listed-long, listed-used}
 use Rattle.ownership.specs.Code.Claims.{Claims}
 use Rattle.ownership.specs.Owners.{owned}
 use Rattle.ownership.proofs.ClaimsFollow.{Rest, rest-fails, rest-more, rest-none}
@@ -56,6 +56,7 @@ claim-entry-requires c κs =
       s .pre .1 .high,
       ap length g ∙ listed-long img _ (s .pre .1) _ (s .pre .3) (l .i) (omega arith),
       rw g (placed-used img (l .i) (s .pre .2) (listed-few img _ (s .pre .1) _ (s .pre .3) (l .i) (omega arith))),
+      ap unused g ∙ listed-used img _ (s .pre .1) _ (s .pre .3) (l .i) (omega arith),
     )
 
 same-length : tie.Need-same-length Inv-loop μ-loop

@@ -5,16 +5,10 @@ use denote.Ref.{now}
 use borrow.Author.Needs.{needs}
 use borrow.Author.Tests.{not-true, not-false}
 use Rattle.lists.proofs.LentParts.{length-sector}
-use Rattle.ownership.proofs.OwnedRuns.{owned-unused, run-fits, owned-run, chain-fits, owned-chain, chain-sound}
-use Rattle.ownership.proofs.ClaimsFollow.{claims-none, claims-fails, claims-then}
+use Rattle.ownership.proofs.OwnedRuns.{run-fits, owned-run, chain-fits, owned-chain, chain-sound}
+use Rattle.ownership.proofs.ClaimsFollow.{claims-fails, claims-then}
 use Rattle.ownership.proofs.owners.claim_entry.Statement.{statement}
 use Rattle.ownership.proofs.owners.claim_entry.Tie as tie
-
-unused-requires : tie.Need-unused-requires
-unused-requires c κs = search needs
-
-returns : tie.Need-returns
-returns c = rw (owned-unused _ _ (sym (c .before .unused .ensures) ∙ c .if1 .taken)) (claims-none _)
 
 start-requires : tie.Need-start-requires
 start-requires c κs = search needs
@@ -27,108 +21,92 @@ size-requires c κs = search needs
 
 claim-run-requires : tie.Need-claim-run-requires
 claim-run-requires c κs =
-    let before = c .before .before .before .before .before .before .before .before .before .before in
-    let unused = c .before .before .before .before .before .before .unused in
-    let if1 = c .before .before .before .before .before .if1 in
+    let before = c .before .before .before .before .before .before .before .before in
     let start = c .before .before .before .before .start in
     let s = before in
     let img = now (s .args .img) in
     let e = now (s .args .e) in
-    let u = sym (unused .ensures) ∙ if1 .left in
+    let u = s .pre .5 in
     let es = start .ensures .0 in
-    let w = sym (c .before .before .before .contiguous .ensures) ∙ c .before .before .if2 .taken in
+    let w = sym (c .before .before .before .contiguous .ensures) ∙ c .before .before .if1 .taken in
     let en = c .before .size .ensures .0 in
     (omega arith, (let q = run-fits img e (s .args .t) (s .pre .1) (s .pre .4) u _ _ w es en in omega arith))
 
 same-length : tie.Need-same-length
 same-length c = search needs
 
-returns-2 : tie.Need-returns-2
-returns-2 c =
-    let before = c .before .before .before .before .before .before .before .before .before .before .before .before .before in
-    let unused = c .before .before .before .before .before .before .before .before .before .unused in
-    let if1 = c .before .before .before .before .before .before .before .before .if1 in
+returns : tie.Need-returns
+returns c =
+    let before = c .before .before .before .before .before .before .before .before .before .before .before in
     let start = c .before .before .before .before .before .before .before .start in
     let contiguous = c .before .before .before .before .before .before .contiguous in
-    let if2 = c .before .before .before .before .before .if2 in
+    let if1 = c .before .before .before .before .before .if1 in
     let size = c .before .before .before .before .size in
     let s = before in
     let img = now (s .args .img) in
     let e = now (s .args .e) in
-    let u = sym (unused .ensures)
-    ∙ if1 .left in
+    let u = s .pre .5 in
     let es = start .ensures .0 in
-    let w = sym (contiguous .ensures) ∙ if2 .taken in
+    let w = sym (contiguous .ensures) ∙ if1 .taken in
     let en = size .ensures .0 in
     rw (owned-run img e _ _ u w es en) (c .before .before .claim-run .ensures)
 
 claim-run-requires-2 : tie.Need-claim-run-requires-2
 claim-run-requires-2 c κs =
-    let before = c .before .before .before .before .before .before .before .before .before in
-    let unused = c .before .before .before .before .before .unused in
-    let if1 = c .before .before .before .before .if1 in
+    let before = c .before .before .before .before .before .before .before in
     let s = before in
     let img = now (s .args .img) in
     let e = now (s .args .e) in
-    let u = sym (unused .ensures) ∙ if1 .left in
+    let u = s .pre .5 in
     let es = c .before .before .before .start .ensures .0 in
-    let w = sym (c .before .before .contiguous .ensures) ∙ c .before .if2 .left in
+    let w = sym (c .before .before .contiguous .ensures) ∙ c .before .if1 .left in
     (omega arith, (let q = chain-fits img e (s .args .t) (s .pre .1) (s .pre .4) u _ w es in omega arith))
 
 same-length-2 : tie.Need-same-length-2
 same-length-2 c = search needs
 
-returns-3 : tie.Need-returns-3
-returns-3 c =
-    let before = c .before .before .before .before .before .before .before .before .before .before .before .before .before in
-    let unused = c .before .before .before .before .before .before .before .before .before .unused in
-    let if1 = c .before .before .before .before .before .before .before .before .if1 in
+returns-2 : tie.Need-returns-2
+returns-2 c =
+    let before = c .before .before .before .before .before .before .before .before .before .before .before in
     let start = c .before .before .before .before .before .before .before .start in
     let contiguous = c .before .before .before .before .before .before .contiguous in
-    let if2 = c .before .before .before .before .before .if2 in
+    let if1 = c .before .before .before .before .before .if1 in
     let s = before in
     let img = now (s .args .img) in
     let e = now (s .args .e) in
-    let u = sym (unused .ensures)
-    ∙ if1 .left in
+    let u = s .pre .5 in
     let es = start .ensures .0 in
-    let w = sym (contiguous .ensures) ∙ if2 .left in
-    rw (owned-chain img e _ u w es) (claims-fails _ (rw (not-true (c .before .before .before .claim-run2 .result) (c .if3 .taken)) at
+    let w = sym (contiguous .ensures) ∙ if1 .left in
+    rw (owned-chain img e _ u w es) (claims-fails _ (rw (not-true (c .before .before .before .claim-run2 .result) (c .if2 .taken)) at
     (c .before .before .before .claim-run2 .ensures)))
 
 sector-of-requires : tie.Need-sector-of-requires
 sector-of-requires c κs =
-    let before = c .before .before .before .before .before .before .before .before .before .before .before .before .before .before in
-    let unused = c .before .before .before .before .before .before .before .before .before .before .unused in
-    let if1 = c .before .before .before .before .before .before .before .before .before .if1 in
+    let before = c .before .before .before .before .before .before .before .before .before .before .before .before in
     let start = c .before .before .before .before .before .before .before .before .start in
     let contiguous = c .before .before .before .before .before .before .before .contiguous in
-    let if2 = c .before .before .before .before .before .before .if2 in
+    let if1 = c .before .before .before .before .before .before .if1 in
     let s = before in
     let img = now (s .args .img) in
     let e = now (s .args .e) in
-    let u = sym (unused .ensures)
-    ∙ if1 .left in
+    let u = s .pre .5 in
     let es = start .ensures .0 in
-    let w = sym (contiguous .ensures) ∙ if2 .left in
+    let w = sym (contiguous .ensures) ∙ if1 .left in
     let q = chain-fits img e (s .args .t) (s .pre .1) (s .pre .4) u _ w es in
     omega (arith, s .pre .1)
 
 claim-block-requires : tie.Need-claim-block-requires
 claim-block-requires c κs =
-    let before = c .before .before .before .before .before .before .before .before .before .before .before .before .before .before .before in
-    let unused = c .before .before .before .before .before .before .before .before .before .before .before .unused in
-    let if1 = c .before .before .before .before .before .before .before .before .before .before .if1 in
+    let before = c .before .before .before .before .before .before .before .before .before .before .before .before .before in
     let start = c .before .before .before .before .before .before .before .before .before .start in
     let contiguous = c .before .before .before .before .before .before .before .before .contiguous in
-    let if2 = c .before .before .before .before .before .before .before .if2 in
+    let if1 = c .before .before .before .before .before .before .before .if1 in
     let s = before in
     let img = now (s .args .img) in
     let e = now (s .args .e) in
-    let u = sym (unused .ensures)
-    ∙ if1 .left in
+    let u = s .pre .5 in
     let es = start .ensures .0 in
-    let w = sym (contiguous .ensures) ∙ if2 .left in
+    let w = sym (contiguous .ensures) ∙ if1 .left in
     let q = chain-fits img e (s .args .t) (s .pre .1) (s .pre .4) u _ w es in
     let g = c .sector-of .ensures in
     (omega arith, ap length g ∙ length-sector _ img (omega (arith, s .pre .1)), s .pre .2, rw g (chain-sound img e (s .args .t) (s .pre .1) (s .pre .4) u _ w es))
@@ -136,45 +114,40 @@ claim-block-requires c κs =
 same-length-3 : tie.Need-same-length-3
 same-length-3 c = search needs
 
-returns-4 : tie.Need-returns-4
-returns-4 c =
-    let before = c .before .before .before .before .before .before .before .before .before .before .before .before .before .before .before .before .before .before in
-    let unused = c .before .before .before .before .before .before .before .before .before .before .before .before .before .before .unused in
-    let if1 = c .before .before .before .before .before .before .before .before .before .before .before .before .before .if1 in
+returns-3 : tie.Need-returns-3
+returns-3 c =
+    let before = c .before .before .before .before .before .before .before .before .before .before .before .before .before .before .before .before in
     let start = c .before .before .before .before .before .before .before .before .before .before .before .before .start in
     let contiguous = c .before .before .before .before .before .before .before .before .before .before .before .contiguous in
-    let if2 = c .before .before .before .before .before .before .before .before .before .before .if2 in
+    let if1 = c .before .before .before .before .before .before .before .before .before .before .if1 in
     let claim-run2 = c .before .before .before .before .before .before .before .before .claim-run2 in
-    let if3 = c .before .before .before .before .before .if3 in
+    let if2 = c .before .before .before .before .before .if2 in
     let s = before in
     let img = now (s .args .img) in
     let e = now (s .args .e) in
-    let u = sym (unused .ensures)
-    ∙ if1 .left in
+    let u = s .pre .5 in
     let es = start .ensures .0 in
     let w = sym (contiguous .ensures)
-    ∙ if2 .left in
+    ∙ if1 .left in
     rw (owned-chain img e _ u w es)
     (claims-then (rw (not-false (claim-run2 .result)
-    (if3 .left)) at (claim-run2 .ensures))
+    (if2 .left)) at (claim-run2 .ensures))
     (rw (c .before .before .before .sector-of .ensures) at (c .before .before .claim-block .ensures)))
 
 pub claim-entry-spec : {M : Type 1} → statement M
 claim-entry-spec =
     tie.close
     (tie.spec
-    unused-requires
-    returns
     start-requires
     contiguous-requires
     size-requires
     claim-run-requires
     same-length
-    returns-2
+    returns
     claim-run-requires-2
     same-length-2
-    returns-3
+    returns-2
     sector-of-requires
     claim-block-requires
     same-length-3
-    returns-4)
+    returns-3)

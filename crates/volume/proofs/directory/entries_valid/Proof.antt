@@ -1,6 +1,6 @@
 -- The loop's invariant: the entries in use that are left are good as all entries are.
 use mathlib.Core.List.{List, []}
-use mathlib.Core.Bool.{Bool}
+use mathlib.Core.Bool.{Bool, false}
 use mathlib.Core.Path.{_≡_, ap, _∙_, sym}
 use Prim.Native.Nat.{ℕ, _≤_, _-_}
 use native.Mathlib.Omega.{arith}
@@ -13,12 +13,16 @@ use Rattle.lists.proofs.Tests.{or-first}
 use Rattle.lists.proofs.Walks.{all-stop, all-more, all-end}
 use Rattle.volume.specs.Directory.{unused, valid, entries}
 use Rattle.volume.specs.Code.Used.{usedEntries}
-use Rattle.volume.proofs.UsedSlots.{all-used, listed-below, listed-entry, listed-few, listed-length, listed-long}
+use Rattle.volume.proofs.UsedSlots.{all-used, listed-below, listed-entry, listed-few, listed-length, listed-long, listed-used}
 use Rattle.volume.proofs.directory.entries_valid.Statement.{statement}
 use Rattle.volume.proofs.directory.entries_valid.Tie as tie
 
 abbrev good : List ℕ → Bool
 good e = unused e or valid e
+
+good-used : (e : List ℕ) → unused e ≡ false → good e ≡ valid e
+unfolding _or_
+good-used e u = rw u
 
 abbrev Inv-loop : tie.InvT-loop
 Inv-loop img p used i₀ i = (i ≤ length used) × (all good (entries img) ≡ all good (drop i (usedEntries img)))
@@ -42,8 +46,8 @@ entry-of-requires c κs =
     let l = c .before .before .before .loop in
     (s .pre .0, rw (c .wide .ensures .0) (listed-below _ _ (s .pre .0) _ (s .pre .1) (l .i) (omega arith)))
 
-entry-good-requires : tie.Need-entry-good-requires Inv-loop μ-loop
-entry-good-requires c κs =
+valid-requires : tie.Need-valid-requires Inv-loop μ-loop
+valid-requires c κs =
     let s = c .before .before .before .before .before .before .before in
     let l = c .before .before .before .before .loop in
     let q = rw (c .before .wide .ensures .0) at (c .entry-of .ensures) in
@@ -57,7 +61,7 @@ returns c =
     let q = rw (c .before .before .before .wide .ensures .0) at (c .before .before .entry-of .ensures) in
     let e = q ∙ listed-entry img _ (s .pre .0) _ (s .pre .1) (l .i) (omega arith) in
     sym (l .inv .1 ∙ all-stop good (usedEntries img) [] (l .i) (listed-few img _ (s .pre .0) _ (s .pre .1) (l .i) (omega arith))
-    (sym (ap good e) ∙ sym (c .before .entry-good .ensures) ∙ not-true _ (c .if1 .taken)))
+    (good-used _ (listed-used img _ (s .pre .0) _ (s .pre .1) (l .i) (omega arith)) ∙ sym (ap valid e) ∙ sym (c .before .valid .ensures) ∙ not-true _ (c .if1 .taken)))
 
 add-i : tie.Need-add-i Inv-loop μ-loop
 add-i c = search needs
@@ -74,7 +78,7 @@ loop-again c =
     let e = q ∙ listed-entry img _ (s .pre .0) _ (s .pre .1) (l .i) (omega arith) in (
       omega arith,
       l .inv .1 ∙ all-more good (usedEntries img) [] (l .i) (listed-few img _ (s .pre .0) _ (s .pre .1) (l .i) (omega arith))
-          (sym (ap good e) ∙ sym (c .before .entry-good .ensures) ∙ not-false _ (c .if1 .left)),
+          (good-used _ (listed-used img _ (s .pre .0) _ (s .pre .1) (l .i) (omega arith)) ∙ sym (ap valid e) ∙ sym (c .before .valid .ensures) ∙ not-false _ (c .if1 .left)),
     )
 
 returns-2 : tie.Need-returns-2 Inv-loop μ-loop
@@ -94,7 +98,7 @@ entries-valid-spec =
     shared-slice-read-wide
     wide-requires
     entry-of-requires
-    entry-good-requires
+    valid-requires
     returns
     add-i
     loop-less
