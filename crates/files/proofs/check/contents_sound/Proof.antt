@@ -9,10 +9,9 @@ use borrow.Author.Needs.{needs}
 use borrow.Author.Tests.{not-true, not-false}
 use Rattle.lists.specs.Lists.{all}
 use Rattle.lists.proofs.Walks.{all-stop, all-more, all-end}
-use Rattle.volume.specs.Directory.{entries}
+use Rattle.volume.specs.Directory.{entries, unused}
 use Rattle.volume.specs.Code.Used.{usedEntries}
-use Rattle.volume.proofs.Slots.{length-entry}
-use Rattle.volume.proofs.UsedSlots.{all-used, listed-below, listed-entry, listed-few, listed-length}
+use Rattle.volume.proofs.UsedSlots.{all-used, listed-below, listed-entry, listed-few, listed-length, listed-long, listed-used}
 use Rattle.files.specs.Code.Verdict.{fileSound}
 use Rattle.files.proofs.map.OpenBlock.{opens-at}
 use Rattle.files.proofs.check.FileVerdicts.{sound-none}
@@ -48,8 +47,11 @@ file-sound-requires c κs =
     let l = c .before .before .before .before .loop in
     let img = now (s .args .img) in
     let q = rw (c .before .wide .ensures .0) at (c .entry-of .ensures) in
+    let e = q ∙ listed-entry img _ (s .pre .0) _ (s .pre .3) (l .i) (omega arith) in
+    let u = ap unused e ∙ listed-used img _ (s .pre .0) _ (s .pre .3) (l .i) (omega arith) in
     let below = listed-below img _ (s .pre .0) _ (s .pre .3) (l .i) (omega arith) in
-    (ap length q ∙ length-entry _ _ (s .pre .0) _ below, λ u v. rw q (opens-at img _ (s .pre .0) (s .pre .1) (s .pre .2) _ below (rw q at u) (rw q at v)))
+    (ap length e ∙ listed-long img _ (s .pre .0) _ (s .pre .3) (l .i) (omega arith), u,
+      λ v. rw q (opens-at img _ (s .pre .0) (s .pre .1) (s .pre .2) _ below (rw q at u) (rw q at v)))
 
 returns : tie.Need-returns Inv-loop μ-loop
 returns c =
