@@ -27,7 +27,8 @@ use Rattle.files.specs.Files.{tailSound, recordsSound, sound4, soundButC
 use Rattle.files.proofs.Kept.FileSame.{clear, Same, same-file}
 use Rattle.files.proofs.Kept.FrameKept.{frame-system, frame-1}
 use Rattle.files.proofs.Kept.RecordsSame.{count-same}
-use Rattle.files.proofs.SoundFacts.{Facts, CountsTrue, sound-but, sound-is, placed-unused, content-unused, count-unused}
+use Rattle.ownership.proofs.BlockTests.{placed-unused}
+use Rattle.files.proofs.SoundFacts.{Facts, CountsTrue, sound-but, sound-is, content-unused, count-unused}
 
 -- v′ is v with slot k made e′, writing no sectors but ws
 pub record Changed (v v′ : List ℕ) (k : ℕ) (e′ ws : List ℕ) : Type 0 where

@@ -96,11 +96,7 @@ pub sound-is : (v : List ℕ) → soundButCounts v ≡ true → CountsTrue v →
 unfolding sound
 sound-is v a b = both-true _ _ a b
 
--- an unused entry passes every test, and owns nothing
-pub placed-unused : (v e : List ℕ) → unused e ≡ true → placed v e ≡ true
-unfolding placed
-placed-unused v e u = rw u
-
+-- an unused entry passes the other tests, and owns nothing
 pub content-unused : (v e : List ℕ) → unused e ≡ true → tailSound v e and recordsSound v e ≡ true
 unfolding tailSound recordsSound _and_ _or_
 content-unused v e u = rw u

@@ -2,7 +2,7 @@
 ghost use Rattle.lists.specs.Lists.{all, distinct};
 ghost use mathlib.Core.Path.{_≡_};
 ghost use mathlib.Core.Bool.{true, false};
-ghost use Prim.Native.Nat.{_*_, _≤_};
+ghost use Prim.Native.Nat.{_*_};
 ghost use lib.ListN.{length, drop};
 ghost use Rattle.lists.specs.Parts.{zeros, inSectors};
 ghost use Rattle.records.specs.Streams.{laidOut};

@@ -23,7 +23,7 @@ use Rattle.volume.specs.Volume.{satAt, dirAt, dirs, sat, system}
 use Rattle.volume.specs.Directory.{entries, entryAt, recordLength, entry, fields, valid, named, clashes, namesDiffer, putEntry}
 use Rattle.volume.specs.Sat.{withBits, satOf, isFree, putSat}
 use Rattle.volume.proofs.BitsSet.{length-withBits, bytes-withBits}
-use Rattle.volume.proofs.EntryClashes.{namesDiffer-set}
+use Rattle.volume.proofs.clashes.EntryClashes.{namesDiffer-set}
 use Rattle.volume.proofs.RunFound.{sectors-part}
 use Rattle.volume.proofs.SatAccounts.{distinct-in, sat-marked}
 use Rattle.volume.proofs.EntryFields.{descriptor-length, entry-length, entry-contiguous, entry-used, entry-described, entry-start, entry-size, entry-count, entry-valid}

@@ -18,7 +18,7 @@ use Rattle.volume.specs.Volume.{satAt, dirAt, dirs, sat, system}
 use Rattle.volume.specs.Directory.{entries, entryAt, putEntry}
 use Rattle.volume.specs.Sat.{withBits, satOf, putSat}
 use Rattle.volume.proofs.BitsSet.{length-withBits, bytes-withBits}
-use Rattle.volume.proofs.EntryClashes.{unused-before, unused-after, namesDiffer-set}
+use Rattle.volume.proofs.clashes.EntryClashes.{unused-before, unused-after, namesDiffer-set}
 use Rattle.volume.proofs.SatAccounts.{sat-cleared}
 use Rattle.lists.proofs.ByteLists.{bytes-put, bytes-putSector, bytes-blanks}
 use Rattle.ownership.specs.Owners.{owned, allOwned}
@@ -27,7 +27,8 @@ use Rattle.files.specs.Files.{recordsIn, sound}
 use Rattle.files.specs.Changes.{deleted}
 use Rattle.files.proofs.Kept.FileSame.{clear}
 use Rattle.files.proofs.OwnersApart.{clear-by}
-use Rattle.files.proofs.SoundFacts.{Facts, facts, counts-true, placed-unused, content-unused, count-unused}
+use Rattle.ownership.proofs.BlockTests.{placed-unused}
+use Rattle.files.proofs.SoundFacts.{Facts, facts, counts-true, content-unused, count-unused}
 use Rattle.files.proofs.OneFileChanged.{Changed, ahead, behind, owned-was, entry-here, change-sound}
 use Rattle.files.proofs.EntryAndSatWritten.{tables}
 use Rattle.files.proofs.SoundSat.{length-sat, bytes-sat, below-table, slot-below}

@@ -25,13 +25,14 @@ use Rattle.volume.specs.Sat.{satOf}
 use Rattle.volume.specs.Formatted.{freshLayout, trailerOf, formatted}
 use Rattle.volume.proofs.Bits.{length-satOf}
 use Rattle.volume.proofs.SatChanged.{bytes-satOf}
-use Rattle.volume.proofs.EntryClashes.{names-replicate}
+use Rattle.volume.proofs.clashes.EntryClashes.{names-replicate}
 use Rattle.lists.proofs.ByteLists.{bytes-append, bytes-blanks, bytes-bytes2, bytes-filled}
 use Rattle.ownership.specs.Blocks.{placed, sound3}
 use Rattle.ownership.specs.Owners.{owned, allOwned, sound5}
 use Rattle.ownership.proofs.OwnedRuns.{owned-unused}
 use Rattle.files.specs.Files.{tailSound, recordsSound, sound4, countIs, countsAre, recordsIn, sound}
-use Rattle.files.proofs.SoundFacts.{CountsTrue, sound-but, sound-is, placed-unused, content-unused, count-unused}
+use Rattle.ownership.proofs.BlockTests.{placed-unused}
+use Rattle.files.proofs.SoundFacts.{CountsTrue, sound-but, sound-is, content-unused, count-unused}
 
 -- what the tests of a volume ID and of the numbers say
 record Numbers (id : List ℕ) (d t : ℕ) : Type 0 where

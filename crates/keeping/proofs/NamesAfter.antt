@@ -17,7 +17,7 @@ use Rattle.volume.specs.Names.{descriptor}
 use Rattle.volume.specs.Volume.{dirs}
 use Rattle.volume.specs.Directory.{entries, entryAt, unused, described, named, clashes, namesDiffer, entry, fields}
 use Rattle.volume.proofs.EntryFields.{descriptor-length, entry-described}
-use Rattle.volume.proofs.NamesDiffer.{clash-named}
+use Rattle.volume.proofs.clashes.NamesDiffer.{clash-named}
 use Rattle.volume.proofs.Slots.{length-entries}
 use Rattle.files.specs.Files.{sound}
 use Rattle.files.specs.Changes.{allocated, deleted}

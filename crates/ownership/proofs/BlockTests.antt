@@ -62,12 +62,12 @@ pub sectors-are : (img : List ℕ) (t : ℕ) → length img ≡ 256 * t → sect
 unfolding sectors
 sectors-are img t h = omega arith
 
--- an entry: unused, contiguous, or sequential
-module _ (img e : List ℕ) (t : ℕ) (long : length img ≡ 256 * t) where
-  pub placed-unused : unused e ≡ true → true ≡ placed img e
-  unfolding placed
-  placed-unused u = rw u
+-- an entry: unused, which points nowhere, contiguous, or sequential
+pub placed-unused : (img e : List ℕ) → unused e ≡ true → placed img e ≡ true
+unfolding placed
+placed-unused img e u = rw u
 
+module _ (img e : List ℕ) (t : ℕ) (long : length img ≡ 256 * t) where
   pub placed-contiguous : (s n : ℕ) → unused e ≡ false → contiguous e ≡ true → s ≡ start e → n ≡ size e → leb (s + n) t ≡ placed img e
   unfolding placed
   placed-contiguous s n u k es en = rw (u, k, sectors-are img t long, es, en)
@@ -83,8 +83,3 @@ module _ (img e : List ℕ) (t : ℕ) (long : length img ≡ 256 * t) where
 -- what the checker says of a part up to the end
 pub rest-lent : (l : List ℕ) (k : ℕ) → take (length l - k) (drop k l) ≡ drop k l
 rest-lent l k = let n : length (drop k l) ≤ length l - k = simp length-drop (omega arith) in take-all (length l - k) (drop k l) n
-
--- an unused entry points nowhere
-pub unused-placed : (img e : List ℕ) → unused e ≡ true → placed img e ≡ true
-unfolding placed
-unused-placed img e u = rw u

@@ -13,11 +13,11 @@ use Rattle.lists.proofs.Lists.{all-at}
 use Rattle.volume.specs.Directory.{unused, contiguous, start, size, entries, entryAt}
 use Rattle.volume.specs.Volume.{systemOf}
 use Rattle.volume.specs.Code.Used.{usedEntries}
-use Rattle.volume.proofs.UsedSlots.{all-used}
+use Rattle.volume.proofs.used.UsedSlots.{all-used}
 use Rattle.volume.specs.declared.locate.Layout.{Layout}
 use Rattle.ownership.specs.Blocks.{segments, pairs, segStart, segLength, segment, segmentSound, blockSound, block, sectorsOf, placed, sound3}
 use Rattle.ownership.specs.Owners.{logical, owned}
-use Rattle.ownership.proofs.BlockTests.{segment-at, pairs-length, sectors-are, unused-placed}
+use Rattle.ownership.proofs.BlockTests.{segment-at, pairs-length, sectors-are, placed-unused}
 use Rattle.ownership.proofs.BlockFacts.{block-facts, placed-run, placed-start, placed-block}
 
 -- segment i, by its two words
@@ -68,4 +68,4 @@ placed-entry img k h l = all-at (placed img) (entries img) k [] h l
 
 pub placed-used : (img : List ℕ) (i : ℕ) → sound3 img ≡ true → i < length (usedEntries img) → placed img (getD (usedEntries img) i []) ≡ true
 unfolding sound3 usedEntries
-placed-used img i h l = all-at (placed img) (usedEntries img) i [] (sym (all-used (placed img) (entries img) (λ e u. unused-placed img e u)) ∙ h) l
+placed-used img i h l = all-at (placed img) (usedEntries img) i [] (sym (all-used (placed img) (entries img) (λ e u. placed-unused img e u)) ∙ h) l

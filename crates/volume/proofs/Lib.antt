@@ -3,7 +3,6 @@ pub mod Bits
 pub mod BitsSet
 pub mod EntriesMade
 pub mod EntryBytes
-pub mod EntryClashes
 pub mod EntryCounted
 pub mod EntryFields
 pub mod EntryWritten
@@ -11,7 +10,6 @@ pub mod Formatted
 pub mod LayoutKept
 pub mod Located
 pub mod NameBytes
-pub mod NamesDiffer
 pub mod RunFound
 pub mod SatAccounts
 pub mod SatChanged
@@ -19,5 +17,3 @@ pub mod SatRuns
 pub mod SearchAnswers
 pub mod Searches
 pub mod Slots
-pub mod TablesSame
-pub mod UsedSlots

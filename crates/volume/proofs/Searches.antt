@@ -6,3 +6,4 @@ pub mod RunHunt
 pub mod RunQuads
 pub mod SearchStops
 pub mod TableQuads
+pub mod TablesSame

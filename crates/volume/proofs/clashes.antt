@@ -1,1 +1,3 @@
+pub mod EntryClashes
 pub mod FileNumbers
+pub mod NamesDiffer

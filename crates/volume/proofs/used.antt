@@ -1,1 +1,2 @@
 pub mod EmptySectors
+pub mod UsedSlots

@@ -28,7 +28,8 @@ use Rattle.files.proofs.Kept.FrameKept.{frame-system, frame-1}
 use Rattle.files.proofs.OwnersApart.{sat-not-dir, zero-not, last-not}
 use Rattle.files.proofs.OwnSectorsWritten.{slot-valid}
 use Rattle.files.proofs.Kept.RecordsSame.{records-same}
-use Rattle.files.proofs.SoundFacts.{Facts, sound-but, placed-unused, content-unused}
+use Rattle.ownership.proofs.BlockTests.{placed-unused}
+use Rattle.files.proofs.SoundFacts.{Facts, sound-but, content-unused}
 
 pub record Recounted (v v′ : List ℕ) : Type 0 where
   pub keeps : Keeps (range (dirAt v) (dirs v)) v v′

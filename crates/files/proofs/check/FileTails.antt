@@ -1,11 +1,10 @@
 -- The bytes after a stream: none where the stream ends with its last sector, else the rest of that sector.
-use mathlib.Core.Path.{_≡_, refl, ap, sym, _∙_}
+use mathlib.Core.Path.{_≡_, ap, sym, _∙_}
 use mathlib.Core.Bool.{true}
 use mathlib.Core.List.{List}
 use Prim.Native.Nat.{ℕ, _+_, _-_, _*_, _/_, _%_, _<_, _≤_}
 use native.Mathlib.Omega.{arith}
 use lib.ListN.{length, getD, take, drop}
-use Rattle.lists.specs.Lists.{all}
 use Rattle.lists.specs.Parts.{zeros, inSectors, part}
 use Rattle.lists.proofs.LentParts.{lent, lent-rest}
 use Rattle.lists.proofs.Walks.{all-end}

@@ -9,13 +9,13 @@ use native.Mathlib.Omega.{arith}
 use lib.ListN.{length, length-map, getD, drop, drop-of-length-le}
 use lib.Seq.{drop-cons}
 use borrow.Author.Tests.{eq-eqb}
-use Rattle.lists.specs.Lists.{all, among, same, _and_, _or_}
-use Rattle.lists.proofs.Bools.{or-false, or-is}
+use Rattle.lists.specs.Lists.{all, among, _and_, _or_}
+use Rattle.lists.proofs.Bools.{or-false}
 use Rattle.lists.proofs.Lists.{same-true, getD-map}
 use Rattle.lists.proofs.Tests.{or-left, or-right, and-right, is-false, both-true}
 use Rattle.volume.specs.Directory.{described, clashes, named, unused}
 use Rattle.volume.specs.Code.Used.{fileNumber, fileNumbers, usedEntries}
-use Rattle.volume.proofs.NamesDiffer.{Alone}
+use Rattle.volume.proofs.clashes.NamesDiffer.{Alone}
 
 numberOf : List ℕ → ℕ
 numberOf e = fileNumber (described e)

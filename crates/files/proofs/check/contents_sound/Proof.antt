@@ -11,7 +11,7 @@ use Rattle.lists.specs.Lists.{all}
 use Rattle.lists.proofs.Walks.{all-stop, all-more, all-end}
 use Rattle.volume.specs.Directory.{entries, unused}
 use Rattle.volume.specs.Code.Used.{usedEntries}
-use Rattle.volume.proofs.UsedSlots.{all-used, listed-below, listed-entry, listed-few, listed-length, listed-long, listed-used}
+use Rattle.volume.proofs.used.UsedSlots.{all-used, listed-below, listed-entry, listed-few, listed-length, listed-long, listed-used}
 use Rattle.files.specs.Code.Verdict.{fileSound}
 use Rattle.files.proofs.map.OpenBlock.{opens-at}
 use Rattle.files.proofs.check.FileVerdicts.{sound-none}
@@ -49,9 +49,11 @@ file-sound-requires c κs =
     let q = rw (c .before .wide .ensures .0) at (c .entry-of .ensures) in
     let e = q ∙ listed-entry img _ (s .pre .0) _ (s .pre .3) (l .i) (omega arith) in
     let u = ap unused e ∙ listed-used img _ (s .pre .0) _ (s .pre .3) (l .i) (omega arith) in
-    let below = listed-below img _ (s .pre .0) _ (s .pre .3) (l .i) (omega arith) in
-    (ap length e ∙ listed-long img _ (s .pre .0) _ (s .pre .3) (l .i) (omega arith), u,
-      λ v. rw q (opens-at img _ (s .pre .0) (s .pre .1) (s .pre .2) _ below (rw q at u) (rw q at v)))
+    let below = listed-below img _ (s .pre .0) _ (s .pre .3) (l .i) (omega arith) in (
+      ap length e ∙ listed-long img _ (s .pre .0) _ (s .pre .3) (l .i) (omega arith),
+      u,
+      λ v. rw q (opens-at img _ (s .pre .0) (s .pre .1) (s .pre .2) _ below (rw q at u) (rw q at v)),
+    )
 
 returns : tie.Need-returns Inv-loop μ-loop
 returns c =

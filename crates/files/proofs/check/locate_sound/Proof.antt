@@ -1,11 +1,11 @@
-use mathlib.Core.Path.{refl, sym, ap, _∙_}
+use mathlib.Core.Path.{refl, sym, _∙_}
 use native.Mathlib.Omega.{arith}
 use lib.Seq.{length-take-le}
 use denote.Ref.{now}
 use borrow.Author.Needs.{needs}
 use Rattle.lists.proofs.Fronts.{over-front}
 use Rattle.volume.specs.Code.Used.{usedSlots}
-use Rattle.volume.proofs.UsedSlots.{listed-most}
+use Rattle.volume.proofs.used.UsedSlots.{listed-most}
 use Rattle.ownership.proofs.Verdicts.{sound-judged}
 use Rattle.files.proofs.check.SoundVerdict.{judged-nowhere, owners-once, judged-good, judged-bad}
 use Rattle.files.proofs.check.locate_sound.Statement.{statement}
@@ -40,16 +40,23 @@ slice-aggregate-contents-sound c =
 contents-sound-requires : tie.Need-contents-sound-requires
 contents-sound-requires c κs =
     let s = c .before .before .before .before .before .before .before .before in
-    let h = sound-judged _ _ _ (sym (c .before .before .before .before .before .judge .ensures .0) ∙ c .before .before .verdict .given .1) in
-    (h .0 .located, h .0 .point3, owners-once _ _ (h .0), rw (h .1, c .before .before .before .before .before .judge .ensures .1 (h .2)) (over-front (usedSlots (now (s .args .img))) _))
+    let h = sound-judged _ _ _ (sym (c .before .before .before .before .before .judge .ensures .0) ∙ c .before .before .verdict .given .1) in (
+      h .0 .located,
+      h .0 .point3,
+      owners-once _ _ (h .0),
+      rw (h .1, c .before .before .before .before .before .judge .ensures .1 (h .2)) (over-front
+          (usedSlots (now (s .args .img))) _),
+    )
 
 returns-2 : tie.Need-returns-2
 returns-2 c =
-    judged-good _ _ (sound-judged _ _ _ (sym (c .before .before .before .before .before .before .before .judge .ensures .0) ∙ c .before .before .before .before .verdict .given .1) .0) (sym (c .before .contents-sound .ensures) ∙ c .if1 .taken)
+    judged-good _ _ (sound-judged _ _ _ (sym (c .before .before .before .before .before .before .before .judge .ensures .0)
+    ∙ c .before .before .before .before .verdict .given .1) .0) (sym (c .before .contents-sound .ensures) ∙ c .if1 .taken)
 
 returns-3 : tie.Need-returns-3
 returns-3 c =
-    judged-bad _ _ (sound-judged _ _ _ (sym (c .before .before .before .before .before .before .before .judge .ensures .0) ∙ c .before .before .before .before .verdict .given .1) .0) (sym (c .before .contents-sound .ensures) ∙ c .if1 .left)
+    judged-bad _ _ (sound-judged _ _ _ (sym (c .before .before .before .before .before .before .before .judge .ensures .0)
+    ∙ c .before .before .before .before .verdict .given .1) .0) (sym (c .before .contents-sound .ensures) ∙ c .if1 .left)
 
 pub locate-sound-spec : {M : Type 1} → statement M
 locate-sound-spec =

@@ -1,10 +1,9 @@
-use mathlib.Core.Path.{_≡_, refl, ap, sym, _∙_}
-use Prim.Native.Nat.{_/_, _%_, _-_, _+_}
+use mathlib.Core.Path.{ap, sym, _∙_}
+use Prim.Native.Nat.{_/_}
 use native.Mathlib.Omega.{arith}
-use lib.ListN.{length}
 use denote.Ref.{now}
 use borrow.Author.Needs.{needs}
-use Rattle.lists.specs.Parts.{zeros, inSectors}
+use Rattle.lists.specs.Parts.{zeros}
 use Rattle.files.proofs.check.FileTails.{no-tail, tail-part, tail-here}
 use Rattle.files.proofs.check.tail_zero.Statement.{statement}
 use Rattle.files.proofs.check.tail_zero.Tie as tie
@@ -52,7 +51,9 @@ all-zero-requires c κs = search needs
 returns-2 : tie.Need-returns-2
 returns-2 c =
     let s = c .before .before .before .before .before .before .before in
-    c .all-zero .ensures ∙ ap zeros (tail-part (now (s .args .img)) (now (s .args .map)) (s .pre .0) (s .args .e) (s .pre .1) (c .before .before .before .before .if1 .left) _ (c .before .before .wide16 .ensures .0))
+    c .all-zero .ensures
+    ∙ ap zeros (tail-part (now (s .args .img)) (now (s .args .map)) (s .pre .0) (s .args .e) (s .pre .1) (c .before .before .before .before .if1 .left) _
+    (c .before .before .wide16 .ensures .0))
 
 pub tail-zero-spec : {M : Type 1} → statement M
 tail-zero-spec =

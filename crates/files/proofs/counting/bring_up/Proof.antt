@@ -44,7 +44,8 @@ returns-2 : tie.Need-returns-2
 returns-2 c =
     let s = c .before .before .before .before .before .before .before .before .before .before .before .before .before in
     let img = now (s .args .img) in
-    let h = sound-judged _ _ _ (sym (c .before .before .before .before .before .before .before .before .before .judge .ensures .0) ∙ c .before .before .before .before .before .before .verdict .given .1) .0 in
+    let h = sound-judged _ _ _ (sym (c .before .before .before .before .before .before .before .before .before .judge .ensures .0)
+    ∙ c .before .before .before .before .before .before .verdict .given .1) .0 in
     up-not img (judged-before img _ h ∙ sym (c .before .before .count-all .ensures .0) ∙ not-true _ (c .if1 .taken))
 
 slice-aggregate-write-counts : tie.Need-slice-aggregate-write-counts
@@ -52,7 +53,8 @@ slice-aggregate-write-counts c = search needs
 
 write-counts-requires : tie.Need-write-counts-requires
 write-counts-requires c κs =
-    let h = sound-judged _ _ _ (sym (c .before .before .before .before .before .before .before .before .before .before .before .judge .ensures .0) ∙ c .before .before .before .before .before .before .before .before .verdict .given .1) .0 in
+    let h = sound-judged _ _ _ (sym (c .before .before .before .before .before .before .before .before .before .before .before .judge .ensures .0)
+    ∙ c .before .before .before .before .before .before .before .before .verdict .given .1) .0 in
     let known = c .before .before .before .before .count-all .ensures .1 (not-false _ (c .before .before .if1 .left)) in (
       h .located,
       omega (arith, h .located .few-dirs),
@@ -66,7 +68,9 @@ returns-3 : tie.Need-returns-3
 returns-3 c =
     let s = c .before .before .before .before .before .before .before .before .before .before .before .before .before .before .before .before .before .before in
     let img = now (s .args .img) in
-    let h = sound-judged _ _ _ (sym (c .before .before .before .before .before .before .before .before .before .before .before .before .before .before .judge .ensures .0) ∙ c .before .before .before .before .before .before .before .before .before .before .before .verdict .given .1) .0 in
+    let h = sound-judged _ _ _ (sym
+    (c .before .before .before .before .before .before .before .before .before .before .before .before .before .before .judge .ensures .0)
+    ∙ c .before .before .before .before .before .before .before .before .before .before .before .verdict .given .1) .0 in
     let yes = c .before .before .before .before .before .before .before .count-all .ensures .0 in
     up-done img _ (judged-before img _ h ∙ sym yes ∙ not-false _ (c .before .before .before .before .before .if1 .left)) (c .before .before .write-counts .ensures)
 

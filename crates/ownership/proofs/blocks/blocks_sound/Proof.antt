@@ -11,9 +11,9 @@ use Rattle.lists.specs.Lists.{all}
 use Rattle.lists.proofs.Walks.{all-stop, all-more, all-end}
 use Rattle.volume.specs.Directory.{unused}
 use Rattle.volume.specs.Code.Used.{usedEntries}
-use Rattle.volume.proofs.UsedSlots.{all-used, listed-below, listed-entry, listed-few, listed-length, listed-long, listed-used}
+use Rattle.volume.proofs.used.UsedSlots.{all-used, listed-below, listed-entry, listed-few, listed-length, listed-long, listed-used}
 use Rattle.ownership.specs.Blocks.{placed, sound3}
-use Rattle.ownership.proofs.BlockTests.{unused-placed}
+use Rattle.ownership.proofs.BlockTests.{placed-unused}
 use Rattle.ownership.proofs.blocks.blocks_sound.Statement.{statement}
 use Rattle.ownership.proofs.blocks.blocks_sound.Tie as tie
 
@@ -26,7 +26,7 @@ abbrev μ-loop : tie.MeasureT-loop
 loop-holds : tie.Need-loop-holds Inv-loop μ-loop
 unfolding sound3 usedEntries
 loop-holds c =
-    (omega arith, all-used _ _ (λ e u. unused-placed _ e u))
+    (omega arith, all-used _ _ (λ e u. placed-unused _ e u))
 
 shared-slice-read-wide : tie.Need-shared-slice-read-wide Inv-loop μ-loop
 shared-slice-read-wide c = search needs

@@ -1,14 +1,13 @@
 use mathlib.Core.Bool.{true≢false}
 use mathlib.Core.Path.{refl, sym, _∙_}
 use native.Mathlib.Omega.{arith}
-use lib.ListN.{length}
 use lib.Seq.{length-take-le}
 use denote.Ref.{now}
 use borrow.Author.Needs.{needs}
 use Rattle.lists.proofs.Fronts.{over-front}
 use Rattle.volume.specs.Code.Used.{usedSlots}
 use Rattle.volume.proofs.Located.{located, nowhere}
-use Rattle.volume.proofs.UsedSlots.{listed-most}
+use Rattle.volume.proofs.used.UsedSlots.{listed-most}
 use Rattle.ownership.proofs.Verdicts.{judged-unsound, judged-sound, fails-1}
 use Rattle.ownership.proofs.judge.judge.Statement.{statement}
 use Rattle.ownership.proofs.judge.judge.Tie as tie
@@ -36,19 +35,37 @@ slice-reshare-prefix-judge-listed : tie.Need-slice-reshare-prefix-judge-listed
 slice-reshare-prefix-judge-listed c =
     let s = c .before .before .before .before .before .before .before .before .before .before in
     let u = c .before .before .list-used in
-    omega (arith, u .ensures .0, u .kept .1 .1 .0, listed-most _ _ (located _ _ (sym (c .before .before .before .before .before .before .before .locate .ensures) ∙ c .before .before .before .before .before .found .given .1)) _ refl, s .pre)
+    omega (
+      arith,
+      u .ensures .0,
+      u .kept .1 .1 .0,
+      listed-most _ _ (located _ _ (sym
+          (c .before .before .before .before .before .before .before .locate .ensures) ∙ c .before .before .before .before .before .found .given .1)) _ refl,
+      s .pre,
+    )
 
 slice-aggregate-judge-listed : tie.Need-slice-aggregate-judge-listed
 slice-aggregate-judge-listed c =
     let s = c .before .before .before .before .before .before .before .before .before .before .before in
     let u = c .before .before .before .list-used in
-    sym (length-take-le _ _ (omega (arith, u .ensures .0, u .kept .1 .1 .0, listed-most _ _ (located _ _ (sym (c .before .before .before .before .before .before .before .before .locate .ensures) ∙ c .before .before .before .before .before .before .found .given .1)) _ refl, s .pre)))
+    sym (length-take-le _ _ (omega (
+      arith,
+      u .ensures .0,
+      u .kept .1 .1 .0,
+      listed-most _ _ (located _ _ (sym
+          (c .before .before .before .before .before .before .before .before .locate .ensures)
+          ∙ c .before .before .before .before .before .before .found .given .1)) _ refl,
+      s .pre,
+    )))
 
 judge-listed-requires : tie.Need-judge-listed-requires
 judge-listed-requires c κs =
     let s = c .before .before .before .before .before .before .before .before .before .before .before in
-    let u = c .before .before .before .list-used in
-    (located _ _ (sym (c .before .before .before .before .before .before .before .before .locate .ensures) ∙ c .before .before .before .before .before .before .found .given .1), rw (u .ensures .0, u .ensures .1) (over-front (usedSlots (now (s .args .img))) _))
+    let u = c .before .before .before .list-used in (
+      located _ _ (sym (c .before .before .before .before .before .before .before .before .locate .ensures)
+          ∙ c .before .before .before .before .before .before .found .given .1),
+      rw (u .ensures .0, u .ensures .1) (over-front (usedSlots (now (s .args .img))) _),
+    )
 
 same-length : tie.Need-same-length
 same-length c = search needs
@@ -56,8 +73,11 @@ same-length c = search needs
 returns-2 : tie.Need-returns-2
 returns-2 c =
     let u = c .before .before .before .before .before .list-used in
-    let yes = sym (c .before .judge-listed .ensures) ∙ c .if1 .taken in
-    (judged-sound _ _ _ (located _ _ (sym (c .before .before .before .before .before .before .before .before .before .before .locate .ensures) ∙ c .before .before .before .before .before .before .before .before .found .given .1)) (u .ensures .0) yes, λ y. u .ensures .1)
+    let yes = sym (c .before .judge-listed .ensures) ∙ c .if1 .taken in (
+      judged-sound _ _ _ (located _ _ (sym (c .before .before .before .before .before .before .before .before .before .before .locate .ensures)
+          ∙ c .before .before .before .before .before .before .before .before .found .given .1)) (u .ensures .0) yes,
+      λ y. u .ensures .1,
+    )
 
 same-length-2 : tie.Need-same-length-2
 same-length-2 c = search needs

@@ -11,7 +11,7 @@ use borrow.Author.Tests.{not-true, not-false}
 use Rattle.lists.specs.Lists.{flat}
 use Rattle.volume.specs.Directory.{entries, unused}
 use Rattle.volume.specs.Code.Used.{usedEntries}
-use Rattle.volume.proofs.UsedSlots.{flat-used, listed-below, listed-entry, listed-few, listed-length, listed-long, listed-used}
+use Rattle.volume.proofs.used.UsedSlots.{flat-used, listed-below, listed-entry, listed-few, listed-length, listed-long, listed-used}
 use Rattle.ownership.specs.Code.Claims.{Claims}
 use Rattle.ownership.specs.Owners.{owned}
 use Rattle.ownership.proofs.ClaimsFollow.{Rest, rest-fails, rest-more, rest-none}

@@ -7,12 +7,11 @@ use native.Mathlib.Omega.{arith}
 use lib.ListN.{drop, length, getD}
 use denote.Ref.{now}
 use borrow.Author.Needs.{needs}
-use Rattle.lists.specs.Lists.{same}
 use Rattle.lists.proofs.Walks.{all-stop, all-more, all-end}
 use Rattle.volume.specs.Directory.{clashes, described, named}
 use Rattle.volume.specs.Code.Used.{usedEntries}
-use Rattle.volume.proofs.NamesDiffer.{Alone}
-use Rattle.volume.proofs.UsedSlots.{listed-below, listed-entry, listed-few, listed-length, listed-long, listed-used}
+use Rattle.volume.proofs.clashes.NamesDiffer.{Alone}
+use Rattle.volume.proofs.used.UsedSlots.{listed-below, listed-entry, listed-few, listed-length, listed-long, listed-used}
 use Rattle.volume.proofs.clashes.FileNumbers.{used-clash}
 use Rattle.volume.proofs.clashes.alone.Statement.{statement}
 use Rattle.volume.proofs.clashes.alone.Tie as tie
@@ -80,8 +79,11 @@ returns c =
     let img = now (s .args .img) in
     let j = l .j in
     let hi = s .pre .2 in
-    let ei = rw (c .before .before .before .before .before .before .before .before .before .before .wide .ensures .0) at (c .before .before .before .before .before .before .before .before .before .entry-of .ensures) ∙ listed-entry img _ (s .pre .0) _ (s .pre .1) (s .args .i) hi in
-    let ej = rw (c .before .before .before .before .before .wide2 .ensures .0) at (c .before .before .before .before .entry-of2 .ensures) ∙ listed-entry img _ (s .pre .0) _ (s .pre .1) j (omega arith) in
+    let ei = rw (c .before .before .before .before .before .before .before .before .before .before .wide .ensures .0) at
+    (c .before .before .before .before .before .before .before .before .before .entry-of .ensures)
+    ∙ listed-entry img _ (s .pre .0) _ (s .pre .1) (s .args .i) hi in
+    let ej = rw (c .before .before .before .before .before .wide2 .ensures .0) at (c .before .before .before .before .entry-of2 .ensures)
+    ∙ listed-entry img _ (s .pre .0) _ (s .pre .1) j (omega arith) in
     let ui = listed-used img _ (s .pre .0) _ (s .pre .1) (s .args .i) hi in
     let uj = listed-used img _ (s .pre .0) _ (s .pre .1) j (omega arith) in
     let di = c .before .before .before .described .ensures .0 ∙ ap described ei in
@@ -105,8 +107,11 @@ loop-again c =
     let img = now (s .args .img) in
     let j = l .j in
     let hi = s .pre .2 in
-    let ei = rw (c .before .before .before .before .before .before .before .before .before .before .wide .ensures .0) at (c .before .before .before .before .before .before .before .before .before .entry-of .ensures) ∙ listed-entry img _ (s .pre .0) _ (s .pre .1) (s .args .i) hi in
-    let ej = rw (c .before .before .before .before .before .wide2 .ensures .0) at (c .before .before .before .before .entry-of2 .ensures) ∙ listed-entry img _ (s .pre .0) _ (s .pre .1) j (omega arith) in
+    let ei = rw (c .before .before .before .before .before .before .before .before .before .before .wide .ensures .0) at
+    (c .before .before .before .before .before .before .before .before .before .entry-of .ensures)
+    ∙ listed-entry img _ (s .pre .0) _ (s .pre .1) (s .args .i) hi in
+    let ej = rw (c .before .before .before .before .before .wide2 .ensures .0) at (c .before .before .before .before .entry-of2 .ensures)
+    ∙ listed-entry img _ (s .pre .0) _ (s .pre .1) j (omega arith) in
     let ui = listed-used img _ (s .pre .0) _ (s .pre .1) (s .args .i) hi in
     let uj = listed-used img _ (s .pre .0) _ (s .pre .1) j (omega arith) in
     let di = c .before .before .before .described .ensures .0 ∙ ap described ei in

@@ -8,8 +8,8 @@ use borrow.Author.Needs.{needs}
 use borrow.Author.Tests.{not-true, not-false}
 use Rattle.volume.specs.Directory.{entries, namesDiffer}
 use Rattle.volume.specs.Code.Used.{usedEntries}
-use Rattle.volume.proofs.NamesDiffer.{differ-stop, differ-more, differ-end}
-use Rattle.volume.proofs.UsedSlots.{names-used, listed-few, listed-length}
+use Rattle.volume.proofs.clashes.NamesDiffer.{differ-stop, differ-more, differ-end}
+use Rattle.volume.proofs.used.UsedSlots.{names-used, listed-few, listed-length}
 use Rattle.volume.proofs.clashes.apart.Statement.{statement}
 use Rattle.volume.proofs.clashes.apart.Tie as tie
 

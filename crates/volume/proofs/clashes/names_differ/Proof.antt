@@ -1,12 +1,11 @@
-use mathlib.Core.Path.{_≡_, sym, ap, _∙_}
+use mathlib.Core.Path.{sym, _∙_}
 use native.Mathlib.Omega.{arith}
-use lib.ListN.{length}
 use lib.Seq.{length-take-le}
 use denote.Ref.{now}
 use borrow.Author.Needs.{needs}
 use Rattle.lists.proofs.Fronts.{over-front}
 use Rattle.volume.specs.Code.Used.{fileNumbers}
-use Rattle.volume.proofs.UsedSlots.{listed-length, listed-most}
+use Rattle.volume.proofs.used.UsedSlots.{listed-length, listed-most}
 use Rattle.volume.proofs.clashes.FileNumbers.{length-numbers}
 use Rattle.volume.proofs.clashes.names_differ.Statement.{statement}
 use Rattle.volume.proofs.clashes.names_differ.Tie as tie

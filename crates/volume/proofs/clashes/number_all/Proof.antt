@@ -1,6 +1,6 @@
 -- The loop's invariant: the first i numbers are written.
 use mathlib.Core.List.{[], _∷_}
-use mathlib.Core.Path.{_≡_, refl, ap, sym, _∙_}
+use mathlib.Core.Path.{_≡_, refl, ap, _∙_}
 use Prim.Native.Nat.{_≤_, _-_}
 use native.Mathlib.Omega.{arith}
 use lib.ListN.{length, drop, length-set, drop-of-length-le}
@@ -9,7 +9,7 @@ use borrow.Author.Needs.{needs}
 use Rattle.lists.proofs.Fronts.{Front, front-start, front-more, front-end, placed-one}
 use Rattle.volume.specs.Directory.{described}
 use Rattle.volume.specs.Code.Used.{fileNumber, fileNumbers}
-use Rattle.volume.proofs.UsedSlots.{listed-below, listed-entry, listed-few, listed-length, listed-long}
+use Rattle.volume.proofs.used.UsedSlots.{listed-below, listed-entry, listed-few, listed-length, listed-long}
 use Rattle.volume.proofs.clashes.FileNumbers.{numbers-one, length-numbers}
 use Rattle.volume.proofs.clashes.number_all.Statement.{statement}
 use Rattle.volume.proofs.clashes.number_all.Tie as tie

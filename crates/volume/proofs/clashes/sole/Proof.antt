@@ -1,14 +1,11 @@
-use mathlib.Core.Path.{_≡_, sym, ap, _∙_}
-use native.Mathlib.Omega.{arith}
-use lib.ListN.{length}
+use mathlib.Core.Path.{sym, _∙_}
 use denote.Ref.{now}
 use borrow.Author.Needs.{needs}
 use Prim.Native.Nat.{_+_}
-use Rattle.lists.specs.Lists.{among}
 use Rattle.lists.proofs.LentParts.{lent-rest}
 use Rattle.volume.specs.Code.Used.{fileNumbers}
-use Rattle.volume.proofs.UsedSlots.{listed-few, listed-length}
-use Rattle.volume.proofs.clashes.FileNumbers.{length-numbers, numbers-later}
+use Rattle.volume.proofs.used.UsedSlots.{listed-few}
+use Rattle.volume.proofs.clashes.FileNumbers.{numbers-later}
 use Rattle.volume.proofs.clashes.sole.Statement.{statement}
 use Rattle.volume.proofs.clashes.sole.Tie as tie
 

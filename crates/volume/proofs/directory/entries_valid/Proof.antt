@@ -13,7 +13,7 @@ use Rattle.lists.proofs.Tests.{or-first}
 use Rattle.lists.proofs.Walks.{all-stop, all-more, all-end}
 use Rattle.volume.specs.Directory.{unused, valid, entries}
 use Rattle.volume.specs.Code.Used.{usedEntries}
-use Rattle.volume.proofs.UsedSlots.{all-used, listed-below, listed-entry, listed-few, listed-length, listed-long, listed-used}
+use Rattle.volume.proofs.used.UsedSlots.{all-used, listed-below, listed-entry, listed-few, listed-length, listed-long, listed-used}
 use Rattle.volume.proofs.directory.entries_valid.Statement.{statement}
 use Rattle.volume.proofs.directory.entries_valid.Tie as tie
 

@@ -6,7 +6,7 @@ use lib.Dec.{eqb}
 use lib.ListN.{drop}
 use borrow.Author.Needs.{needs}
 use Rattle.lists.specs.Lists.{_and_, same}
-use Rattle.volume.proofs.TablesSame.{xor-more, xor-end}
+use Rattle.volume.proofs.Searches.TablesSame.{xor-more, xor-end}
 use Rattle.volume.proofs.sat.same_table.Statement.{statement}
 use Rattle.volume.proofs.sat.same_table.Tie as tie
 

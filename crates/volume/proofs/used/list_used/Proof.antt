@@ -1,7 +1,7 @@
 -- The loop's invariant: of the slots in use those before slot k are listed.
 use mathlib.Core.List.{[], _∷_}
-use mathlib.Core.Path.{_≡_, refl, ap, sym, _∙_}
-use Prim.Native.Nat.{ℕ, _≤_, _-_, _*_}
+use mathlib.Core.Path.{_≡_, refl, sym, _∙_}
+use Prim.Native.Nat.{_≤_, _-_}
 use native.Mathlib.Omega.{arith}
 use lib.ListN.{length, drop, length-set}
 use denote.Ref.{now}
@@ -10,7 +10,7 @@ use Rattle.lists.proofs.Fronts.{Front, front-start, front-more, front-end, plac
 use Rattle.volume.specs.Directory.{entries, entryAt}
 use Rattle.volume.specs.Code.Used.{placesFrom, usedSlots}
 use Rattle.volume.proofs.Slots.{count-slots}
-use Rattle.volume.proofs.UsedSlots.{places-one, places-gap, places-end}
+use Rattle.volume.proofs.used.UsedSlots.{places-one, places-gap, places-end}
 use Rattle.volume.proofs.used.list_used.Statement.{statement}
 use Rattle.volume.proofs.used.list_used.Tie as tie
 

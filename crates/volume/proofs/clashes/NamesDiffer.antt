@@ -8,9 +8,8 @@ use lib.ListN.{length, getD, drop, drop-of-length-le}
 use lib.Seq.{drop-cons}
 use Rattle.lists.specs.Lists.{all, _and_}
 use Rattle.lists.proofs.Walks.{all-yes}
-use Rattle.lists.proofs.Bools.{and-false}
 use Rattle.volume.specs.Directory.{clashes, namesDiffer, unused, described, named}
-use Rattle.volume.proofs.EntryClashes.{unused-before}
+use Rattle.volume.proofs.clashes.EntryClashes.{unused-before}
 
 -- the entry clashes with none of these
 abbrev pub Alone : List ℕ → List (List ℕ) → Bool
@@ -41,7 +40,3 @@ module _ (e d : List ℕ) (u : unused e ≡ false) where
       and-true : (b : Bool) → true and b and true ≡ b
       and-true true = unfold _and_ in refl
       and-true false = unfold _and_ in refl
-
-  pub clash-other : named (described e) d ≡ false → clashes e d ≡ false
-  unfolding clashes
-  clash-other n = rw n (and-false (not (unused e) and not (unused d)))

@@ -13,8 +13,8 @@ use Rattle.lists.specs.Lists.{all, kept, flat, _and_}
 use Rattle.volume.specs.Directory.{entries, entryAt, unused, namesDiffer, clashes}
 use Rattle.volume.specs.Volume.{dirs}
 use Rattle.volume.specs.Code.Used.{placesFrom, usedSlots, usedEntries}
-use Rattle.volume.proofs.EntryClashes.{unused-after}
-use Rattle.volume.proofs.NamesDiffer.{unused-alone}
+use Rattle.volume.proofs.clashes.EntryClashes.{unused-after}
+use Rattle.volume.proofs.clashes.NamesDiffer.{unused-alone}
 use Rattle.volume.specs.Code.Located.{Located}
 use Rattle.volume.specs.declared.locate.Layout.{Layout}
 use Rattle.volume.proofs.Slots.{length-entries, length-entry}
