@@ -1,7 +1,7 @@
--- A run claimed: bit by bit from its front on, and the bytes that it fills at once.
-use mathlib.Core.Path.{_≡_, refl, sym, ap, _∙_}
+-- A run claimed: the bytes that it fills at once, between the sectors before and after them.
+use mathlib.Core.Path.{_≡_, sym, ap, _∙_}
 use mathlib.Core.Bool.{Bool, true, false, not, false≢true}
-use mathlib.Core.List.{List, [], _∷_}
+use mathlib.Core.List.{List}
 use Prim.Native.Nat.{ℕ, _+_, _-_, _*_, _/_, _<_, _≤_}
 use native.Mathlib.Omega.{arith}
 use lib.Dec.{eqb}
@@ -9,7 +9,7 @@ use lib.ListN.{length, take, drop, replicate}
 use borrow.Author.Tests.{eqb-true, not-true}
 use borrow.Rule.Slice.PartMut.{putMid}
 use Rattle.numbers.specs.Numbers.{mostSectors}
-use Rattle.lists.specs.Lists.{_and_, all, range}
+use Rattle.lists.specs.Lists.{all, range}
 use Rattle.lists.specs.Parts.{byte, part, put, zeros, blanks}
 use Rattle.lists.proofs.Alike.{all-alike}
 use Rattle.lists.proofs.AreBytes.{Bytes}
@@ -18,32 +18,14 @@ use Rattle.lists.proofs.Bools.{agree}
 use Rattle.lists.proofs.LentParts.{length-part, byte-part, wrote-fill}
 use Rattle.lists.proofs.Lists.{all-at}
 use Rattle.lists.proofs.Puts.{length-blanks}
-use Rattle.lists.proofs.Ranges.{range-cons, range-end, all-each}
+use Rattle.lists.proofs.Ranges.{all-each}
 use Rattle.lists.proofs.Tests.{zeros-blanks}
-use Rattle.volume.specs.Sat.{marked, isFree, withBit, withBits}
+use Rattle.volume.specs.Sat.{marked, isFree}
 use Rattle.volume.proofs.Bits.{range-each, zero-byte, byte-zero}
 use Rattle.volume.proofs.SatRuns.{range-bytes, withBits-bytes}
 use Rattle.ownership.specs.Code.Claims.{claim, Claims}
 use Rattle.ownership.proofs.ClaimMeaning.{claim-range}
-use Rattle.ownership.proofs.ClaimsFollow.{claims-none, claims-then, claims-fails}
-
--- one sector
-one-free : (m : List ℕ) (i : ℕ) → isFree m i ≡ true → Claims (i ∷ []) m true (withBit 1 m i)
-unfolding claim withBits _and_
-one-free m i h = record { answer = rw h; marks = λ e. refl }
-
-one-taken : (m m′ : List ℕ) (i : ℕ) → isFree m i ≡ false → Claims (i ∷ []) m false m′
-unfolding claim _and_
-one-taken m m′ i h = record { answer = rw h; marks = λ e. absurd (false≢true e) }
-
-pub run-more : {i e : ℕ} {r : Bool} {m m₂ : List ℕ} → i < e → isFree m i ≡ true → Claims (range (i + 1) (e - (i + 1))) (withBit 1 m i) r m₂ → Claims (range i (e - i)) m r m₂
-run-more {i} {e} {r} {m} h t q = rw (range-cons i e h) (claims-then (one-free m i t) q)
-
-pub run-fails : {i e : ℕ} {m m₂ : List ℕ} → i < e → isFree m i ≡ false → Claims (range i (e - i)) m false m₂
-run-fails {i} {e} {m} {m₂} h t = rw (range-cons i e h) (claims-fails (range (i + 1) (e - (i + 1))) (one-taken m m₂ i t))
-
-pub run-none : {i e : ℕ} {m : List ℕ} → e ≤ i → Claims (range i (e - i)) m true m
-run-none {i} {e} {m} h = rw (range-end i e h) (claims-none m)
+use Rattle.ownership.proofs.ClaimsFollow.{claims-then, claims-fails}
 
 -- n bytes from a on: they are zeros where each of their sectors is free
 module _ (m : List ℕ) (a n : ℕ) (b : Bytes m) (l : length m ≡ 256) (fits : a + n ≤ 256) where

@@ -6,6 +6,7 @@ pub mod BlockRuns
 pub mod BlockTests
 pub mod BlockWriters
 pub mod ClaimMeaning
+pub mod ClaimedBits
 pub mod ClaimedRuns
 pub mod ClaimsFollow
 pub mod Fewest

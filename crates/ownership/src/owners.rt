@@ -1,7 +1,7 @@
 // Who owns which sector: no sector twice, and the SAT marks exactly the owned ones.
 ghost use mathlib.Core.Path.{_≡_};
 ghost use mathlib.Core.Bool.{true, false};
-ghost use Prim.Native.Nat.{_+_, _≤_, _<_, _*_};
+ghost use Prim.Native.Nat.{_+_, _≤_, _<_, _*_, _%_};
 ghost use lib.ListN.{length, replicate};
 ghost use Rattle.numbers.specs.Numbers.{mostSectors};
 ghost use Rattle.lists.specs.Lists.{range, flat};
@@ -33,29 +33,28 @@ use volume::locate::Layout;
 use volume::sat::clear_mark;
 use volume::sat::free_in;
 use volume::sat::free_run;
-use volume::sat::marked;
 use volume::sat::same_table;
-use volume::sat::set_mark;
 use volume::search::free_count;
 
-// Claims n sectors from s on, one by one; false where one of them is owned already.
+// Claims n sectors from s on, all of one byte of the marks; false where one of them is owned already.
 fn claim_bits(marks: &mut [u8], s: usize, n: usize) -> bool
-    requires { ⌜ (length (now marks) ≡ 256) × (s + n ≤ mostSectors) ⌝ }
+    requires { ⌜ (length (now marks) ≡ 256) × (s + n ≤ mostSectors) × (s % 8 + n ≤ 8) ⌝ }
     ensures { λ r. ⌜ Claims (range s n) (now (marks .entry)) r (now (marks .exit)) ⌝ }
 {
-    let end = s + n;
-    let mut i = s;
-    while i < end {
-        if marked(marks, i) {
-            return false;
-        }
-        set_mark(marks, i);
-        i += 1;
+    if n == 0 {
+        return true;
     }
+    let q = s / 8;
+    let k = s % 8;
+    let b = marks[q];
+    if (b << k) >> (8 - n) != 0 {
+        return false;
+    }
+    marks[q] = b + ((255 << (8 - n)) >> k);
     true
 }
 
-// Claims n sectors from s on: the bytes that they fill at once, the others bit by bit.
+// Claims n sectors from s on: the bytes that they fill at once, and those of one byte at once.
 fn claim_run(marks: &mut [u8], s: usize, n: usize) -> bool
     requires { ⌜ (length (now marks) ≡ 256) × (s + n ≤ mostSectors) ⌝ }
     ensures { λ r. ⌜ Claims (range s n) (now (marks .entry)) r (now (marks .exit)) ⌝ }
@@ -63,7 +62,7 @@ fn claim_run(marks: &mut [u8], s: usize, n: usize) -> bool
     let end = s + n;
     let a = (s + 7) / 8;
     let e = end / 8;
-    if e <= a {
+    if e < a {
         return claim_bits(marks, s, n);
     }
     if !claim_bits(marks, s, 8 * a - s) {

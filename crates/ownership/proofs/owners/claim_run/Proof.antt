@@ -40,9 +40,6 @@ returns-2 c =
     let args = c .before .before .before .before .before .before .before .args in
     before-fails _ _ (args .s) (args .n) _ ((args .s + args .n) / 8) (omega arith) (omega arith) (omega arith) (rw (not-true (k .result) (c .if2 .taken)) at (k .ensures))
 
-sub-all-zero : tie.Need-sub-all-zero
-sub-all-zero c = search needs
-
 part-all-zero-start : tie.Need-part-all-zero-start
 part-all-zero-start c = search needs
 
@@ -64,9 +61,6 @@ returns-3 c =
     bytes-fail _ _ (start .args .s) (start .args .n) _ _ (omega arith) (omega arith) (omega arith)
     (λ i. met .before .slice-known3 .given i .fits) (k .kept .0 ∙ start .pre .0) (start .pre .1)
     (rw (not-false (k .result) (met .if2 .left)) at (k .ensures)) (sym (zero .ensures) ∙ not-true (zero .result) (c .if3 .taken))
-
-sub-fill : tie.Need-sub-fill
-sub-fill c = search needs
 
 part-fill-start : tie.Need-part-fill-start
 part-fill-start c = search needs
@@ -119,13 +113,11 @@ claim-run-spec =
     claim-bits-requires-2
     same-length-2
     returns-2
-    sub-all-zero
     part-all-zero-start
     part-all-zero-end
     all-zero-requires
     same-length-3
     returns-3
-    sub-fill
     part-fill-start
     part-fill-end
     fill-requires
