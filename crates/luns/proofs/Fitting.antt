@@ -1,6 +1,6 @@
 -- What it says that sixteen LUNs fit a volume, and that they still do with one of them replaced or with the volume changed.
 use mathlib.Core.Path.{_≡_, refl, ap, sym, _∙_}
-use mathlib.Core.Bool.{Bool, true, false, not, true≢false}
+use mathlib.Core.Bool.{Bool, true, false, not}
 use mathlib.Core.List.{List, [], _∷_}
 use Prim.Native.Nat.{ℕ, zero, suc, _<_, _≤_, _+_}
 use native.Mathlib.Omega.{arith}
@@ -52,7 +52,7 @@ and-swap true false c d e = refl
 and-swap false true c d e = refl
 and-swap false false c d e = refl
 
-eqb-swap : (a b : ℕ) → eqb a b ≡ eqb b a
+pub eqb-swap : (a b : ℕ) → eqb a b ≡ eqb b a
 eqb-swap a b = go (eqb a b) (eqb b a) refl refl
   where
     go : (p q : Bool) → eqb a b ≡ p → eqb b a ≡ q → p ≡ q
@@ -137,6 +137,10 @@ pub may-read : (img : List ℕ) (u : Lun) → readsByRight img u ≡ true → re
 unfolding readsByRight
 may-read img u h q = or-cases _ _ h (ap not q)
 
+pub unheld-fits : (img : List ℕ) (u : Lun) → u .held ≡ false → lunFits img u ≡ true
+unfolding lunFits
+unheld-fits img u h = or-first _ _ (ap not h)
+
 pub fitted-lun : (img : List ℕ) (u : Lun) → (u .held ≡ true → Fitted img u) → lunFits img u ≡ true
 unfolding lunFits
 fitted-lun img u f = go (u .held) refl
@@ -146,11 +150,11 @@ fitted-lun img u f = go (u .held) refl
         let g = f h in
         or-second _ _
         (both-true _ _ (both-true _ _ (both-true _ _ (both-true _ _ (ap not (g .used)) (le-leb _ _ (g .user-in))) (g .right)) (g .read-right)) (g .place))
-    go false h = or-first _ _ (ap not h)
+    go false h = unheld-fits img u h
 
 pub free-fits : (img : List ℕ) → lunFits img freeLun ≡ true
 unfolding freeLun
-free-fits img = fitted-lun img freeLun (λ h. absurd (true≢false (sym h)))
+free-fits img = unheld-fits img freeLun refl
 
 -- A place that exists goes on existing where the file is as long or longer
 place-longer : (v v′ e : List ℕ) (p : Place) → extent v e ≤ extent v′ e → placeExists v e p ≡ true → placeExists v′ e p ≡ true

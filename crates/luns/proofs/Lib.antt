@@ -1,5 +1,6 @@
 pub mod Arrays
-pub mod Walks
 pub mod FitLaws
 pub mod Fitting
+pub mod Walks
+pub mod Probing
 pub mod Vectors

@@ -1,44 +1,55 @@
--- Walks over the LUNs, one at a time: what is left answers as the whole.
-use mathlib.Core.Path.{_≡_, _∙_}
+-- Walks over the LUNs, one at a time: what is left fits as the whole does.
+use mathlib.Core.Path.{_≡_, refl, _∙_}
 use mathlib.Core.Bool.{Bool, true, false}
 use mathlib.Core.List.{List}
 use Prim.Native.Nat.{ℕ, _+_, _<_, _≤_}
 use native.Mathlib.Numerals.{add-one}
 use lib.ListN.{length, getD, drop, drop-of-length-le}
 use lib.Seq.{drop-cons}
-use Rattle.lists.specs.Lists.{_or_, some, _and_, all}
+use borrow.Author.Tests.{eq-eqb}
+use Rattle.lists.specs.Lists.{_and_, all}
+use Rattle.lists.proofs.Bools.{and-false}
 use Rattle.luns.specs.declared.Lun.{Lun}
-use Rattle.luns.specs.Luns.{freeLun, agree, allAgree}
+use Rattle.luns.specs.Luns.{freeLun, agree, allAgree, lunFits, fits}
+use Rattle.luns.proofs.Fitting.{unheld-fits, all-agree-free}
 
--- p passes at some of what is left as at some of the whole
-module _ {A : Type 0} (p : A → Bool) (xs : List A) (d : A) (i : ℕ) where
-  pub some-more : i < length xs → p (getD xs i d) ≡ false → some p (drop i xs) ≡ some p (drop (i + 1) xs)
-  unfolding some _or_
-  some-more h e = rw (add-one, drop-cons xs i d h, some, e)
+-- each of what is left fits by itself, and every two agree
+abbrev pub leftFits : List ℕ → List Lun → Bool
+leftFits img us = all (lunFits img) us and allAgree us
 
-  pub some-stop : i < length xs → p (getD xs i d) ≡ true → some p (drop i xs) ≡ true
-  unfolding some _or_
-  some-stop h e = rw (drop-cons xs i d h, some, e)
+pub whole-fits : (img : List ℕ) (us : List Lun) → length us ≡ 16 → fits img us ≡ leftFits img us
+unfolding fits _and_
+whole-fits img us l = rw (eq-eqb _ _ l)
 
-pub some-end : {A : Type 0} (p : A → Bool) (xs : List A) (i : ℕ) → length xs ≤ i → some p (drop i xs) ≡ false
-unfolding some
-some-end p xs i h = rw (drop-of-length-le xs h)
+and-swap : (a b c d : Bool) → (a and b) and (c and d) ≡ (a and c) and (b and d)
+unfolding _and_
+and-swap true true c d = refl
+and-swap true false c d = rw (and-false c)
+and-swap false b c d = refl
 
--- every two of what is left agree as every two of the whole
-module _ (us : List Lun) (i : ℕ) where
-  agree-step : i < length us → allAgree (drop i us) ≡ all (agree (getD us i freeLun)) (drop (i + 1) us) and allAgree (drop (i + 1) us)
-  unfolding allAgree
-  agree-step h = rw (add-one, drop-cons us i freeLun h)
+module _ (img : List ℕ) (us : List Lun) (i : ℕ) where
+  module _ (l : i < length us) where
+    left-step : leftFits img (drop i us)
+        ≡ (lunFits img (getD us i freeLun) and all (agree (getD us i freeLun)) (drop (i + 1) us)) and leftFits img (drop (i + 1) us)
+    unfolding all allAgree
+    left-step = rw (add-one, drop-cons us i freeLun l) (and-swap _ _ _ _)
 
-  pub agree-more : i < length us → all (agree (getD us i freeLun)) (drop (i + 1) us) ≡ true
-      → allAgree (drop i us) ≡ allAgree (drop (i + 1) us)
-  unfolding _and_
-  agree-more h e = agree-step h ∙ rw e
+    pub left-more : lunFits img (getD us i freeLun) ≡ true → all (agree (getD us i freeLun)) (drop (i + 1) us) ≡ true
+        → leftFits img (drop i us) ≡ leftFits img (drop (i + 1) us)
+    unfolding _and_
+    left-more f a = left-step ∙ rw (f, a)
 
-  pub agree-stop : i < length us → all (agree (getD us i freeLun)) (drop (i + 1) us) ≡ false → allAgree (drop i us) ≡ false
-  unfolding _and_
-  agree-stop h e = agree-step h ∙ rw e
+    pub left-free : getD us i freeLun .held ≡ false → leftFits img (drop i us) ≡ leftFits img (drop (i + 1) us)
+    left-free h = left-more (unheld-fits img _ h) (all-agree-free _ _ h)
 
-  pub agree-end : length us ≤ i → allAgree (drop i us) ≡ true
-  unfolding allAgree
-  agree-end h = rw (drop-of-length-le us h)
+    pub left-unfit : lunFits img (getD us i freeLun) ≡ false → leftFits img (drop i us) ≡ false
+    unfolding _and_
+    left-unfit f = left-step ∙ rw f
+
+    pub left-clash : all (agree (getD us i freeLun)) (drop (i + 1) us) ≡ false → leftFits img (drop i us) ≡ false
+    unfolding _and_
+    left-clash a = left-step ∙ rw (a, and-false (lunFits img (getD us i freeLun)))
+
+  pub left-end : length us ≤ i → leftFits img (drop i us) ≡ true
+  unfolding all allAgree _and_
+  left-end h = rw (drop-of-length-le us h)

@@ -1,21 +1,20 @@
 // Whether a desk fits a sound volume. Slots, users and rights come first: how far a file goes is looked up in its entry, which has to be
-// in use.
+// in use. A free LUN is passed over: it fits by itself and agrees with every other.
 ghost use mathlib.Core.Path.{_≡_};
 ghost use mathlib.Core.Bool.{true, not};
 ghost use Prim.Native.Nat.{_*_, _<_};
 ghost use lib.ListN.{length};
 ghost use lib.Dec.{leb};
-ghost use Rattle.lists.specs.Lists.{_and_, _or_, all};
+ghost use Rattle.lists.specs.Lists.{_and_, _or_};
 ghost use Rattle.numbers.specs.Numbers.{lastUser};
-ghost use Rattle.volume.specs.Directory.{unused, owner};
+ghost use Rattle.volume.specs.Directory.{entryAt, unused, owner};
 ghost use Rattle.volume.specs.Code.Located.{Located};
 ghost use Rattle.files.specs.Files.{sound};
 ghost use Rattle.files.specs.Rights.{hasRight};
-ghost use Rattle.luns.specs.Luns.{readsByRight, fits};
-ghost use Rattle.luns.specs.Code.Fits.{seated, stands, placeWithin};
+ghost use Rattle.luns.specs.Luns.{placeExists, readsByRight, lunFits, fits};
+ghost use Rattle.luns.specs.Code.Fits.{seated, placeWithin};
 use crate::Lun;
 use crate::Place;
-use crate::holding::all_agree;
 use files::extent::extent_of;
 use files::rights::has_right;
 use files::rights::may_read;
@@ -47,35 +46,17 @@ pub fn reads_by_right(image: &[u8], p: Layout, u: Lun) -> bool
     !mode.reads() | may_read(u.user, u.offered, entry_of(image, p, slot))
 }
 
-// A free LUN, or one whose slot is in use, whose user is in range, and that writes and reads with the right to.
+// Of a held LUN: its slot is in use, its user in range, and it writes and reads with the right to.
 fn seated(image: &[u8], p: Layout, u: Lun) -> bool
     requires { ⌜ Located (now image) p ⌝ }
     ensures { λ r. ⌜ r ≡ seated (now (image .entry)) u ⌝ }
 {
-    if !u.held {
-        return true;
-    }
     let slot = u.slot as usize;
     if 8 * p.dirs <= slot {
         return false;
     }
     let mode = u.mode;
     may_hold(entry_of(image, p, slot), u.user, mode.writes()) & reads_by_right(image, p, u)
-}
-
-fn all_seated(image: &[u8], p: Layout, luns: [Lun; LUNS]) -> bool
-    requires { ⌜ Located (now image) p ⌝ }
-    ensures { λ r. ⌜ r ≡ all (seated (now (image .entry))) luns ⌝ }
-{
-    let mut j: usize = 0;
-    while j < LUNS {
-        let u = luns[j];
-        if !seated(image, p, u) {
-            return false;
-        }
-        j += 1;
-    }
-    true
 }
 
 // Whether i with m moved is a place in a file of n records, or sectors if it is contiguous.
@@ -98,14 +79,11 @@ fn place_within(contiguous: bool, n: usize, place: Place) -> bool
     }
 }
 
-// A free LUN, or one whose place exists in its file.
+// Of a held LUN that is seated: its place exists in its file.
 fn stands(image: &[u8], p: Layout, u: Lun) -> bool
     requires { ⌜ Located (now image) p × (sound (now image) ≡ true) × (seated (now image) u ≡ true) ⌝ }
-    ensures { λ r. ⌜ r ≡ stands (now (image .entry)) u ⌝ }
+    ensures { λ r. ⌜ r ≡ placeExists (now (image .entry)) (entryAt (now (image .entry)) (u .slot)) (u .place) ⌝ }
 {
-    if !u.held {
-        return true;
-    }
     let slot = u.slot as usize;
     let place = u.place;
     place_within(
@@ -115,19 +93,15 @@ fn stands(image: &[u8], p: Layout, u: Lun) -> bool
     )
 }
 
-fn all_stand(image: &[u8], p: Layout, luns: [Lun; LUNS]) -> bool
-    requires { ⌜ Located (now image) p × (sound (now image) ≡ true) × (all (seated (now image)) luns ≡ true) ⌝ }
-    ensures { λ r. ⌜ r ≡ all (stands (now (image .entry))) luns ⌝ }
+// Of a held LUN: all that it has to be by itself.
+fn fit(image: &[u8], p: Layout, u: Lun) -> bool
+    requires { ⌜ Located (now image) p × (sound (now image) ≡ true) × (u .held ≡ true) ⌝ }
+    ensures { λ r. ⌜ r ≡ lunFits (now (image .entry)) u ⌝ }
 {
-    let mut j: usize = 0;
-    while j < LUNS {
-        let u = luns[j];
-        if !stands(image, p, u) {
-            return false;
-        }
-        j += 1;
+    if !seated(image, p, u) {
+        return false;
     }
-    true
+    stands(image, p, u)
 }
 
 /// Whether the desk fits a sound volume: slots in use, users in range, writers and readers with the right to, modes that agree, places that
@@ -136,11 +110,19 @@ pub fn fits(image: &[u8], p: Layout, luns: [Lun; LUNS]) -> bool
     requires { ⌜ Located (now image) p × (sound (now image) ≡ true) ⌝ }
     ensures { λ r. ⌜ r ≡ fits (now (image .entry)) luns ⌝ }
 {
-    if !all_seated(image, p, luns) {
-        return false;
+    let mut j: usize = 0;
+    while j < LUNS {
+        let u = luns[j];
+        j += 1;
+        if !u.held {
+            continue;
+        }
+        if !fit(image, p, u) {
+            return false;
+        }
+        if !u.agrees_from(luns, j) {
+            return false;
+        }
     }
-    if !all_agree(luns) {
-        return false;
-    }
-    all_stand(image, p, luns)
+    true
 }

@@ -2,7 +2,7 @@
 ghost use mathlib.Core.Path.{_≡_};
 ghost use lib.ListN.{drop};
 ghost use Rattle.lists.specs.Lists.{all};
-ghost use Rattle.luns.specs.Luns.{freeLun, movedTo, agree, allAgree, holdsSlot, isHeld};
+ghost use Rattle.luns.specs.Luns.{freeLun, movedTo, agree, isHeld};
 use crate::Lun;
 use crate::Mode;
 use crate::Place;
@@ -47,13 +47,6 @@ impl Lun {
         !(self.held & other.held & (self.slot == other.slot)) | a.compatible(b)
     }
 
-    /// Whether it is held on this directory slot.
-    pub fn holds(self, slot: u32) -> bool
-        ensures { λ r. ⌜ r ≡ holdsSlot slot self ⌝ }
-    {
-        self.held & (self.slot == slot)
-    }
-
     /// Whether it agrees with each LUN from a number on.
     pub fn agrees_from(self, luns: [Lun; LUNS], from: usize) -> bool
         ensures { λ r. ⌜ r ≡ all (agree self) (drop from luns) ⌝ }
@@ -70,33 +63,18 @@ impl Lun {
     }
 }
 
-/// Whether every two LUNs agree.
-pub fn all_agree(luns: [Lun; LUNS]) -> bool
-    ensures { λ r. ⌜ r ≡ allAgree luns ⌝ }
-{
-    let mut i: usize = 0;
-    while i < LUNS {
-        let u = luns[i];
-        let next = i + 1;
-        if !u.agrees_from(luns, next) {
-            return false;
-        }
-        i = next;
-    }
-    true
-}
-
-/// Whether some LUN holds this directory slot.
+/// Whether some LUN holds this directory slot: one in EREW, which agrees with no mode, would clash there. So the one loop over LUNs
+/// serves for this too, and the compiler does not take a caller's desk apart into its fields for another.
 pub fn is_held(luns: [Lun; LUNS], slot: u32) -> bool
     ensures { λ r. ⌜ r ≡ isHeld luns slot ⌝ }
 {
-    let mut i: usize = 0;
-    while i < LUNS {
-        let u = luns[i];
-        if u.holds(slot) {
-            return true;
-        }
-        i += 1;
-    }
-    false
+    let probe = Lun {
+        held: true,
+        user: 0,
+        slot: slot,
+        mode: Mode::Erew,
+        offered: 0,
+        place: Place::Fresh,
+    };
+    !probe.agrees_from(luns, 0)
 }

@@ -1,4 +1,4 @@
--- Whether a desk fits, in the parts that the code judges one after the other; each part's place in `fits` is a law of proofs/.
+-- Whether a LUN fits, in the parts that the code judges one after the other; each part's place in `lunFits` is a law of proofs/.
 use mathlib.Core.Bool.{Bool, not, true}
 use mathlib.Core.List.{List}
 use Prim.Native.Nat.{ℕ, _+_}
@@ -9,21 +9,16 @@ use Rattle.volume.specs.Directory.{entryAt, unused, owner}
 use Rattle.files.specs.Rights.{hasRight}
 use Rattle.luns.specs.declared.Lun.{Lun}
 use Rattle.luns.specs.Modes.{writes}
-use Rattle.luns.specs.Luns.{placeExists, readsByRight}
+use Rattle.luns.specs.Luns.{readsByRight}
 use Rattle.luns.specs.declared.Place.{Place}
 use Rattle.luns.specs.declared.Place.the-variants.{Fresh, At}
 
--- a held LUN's slot is in use, its user in range, a writer has the right, and a reader the right to read
+-- of a held LUN: its slot is in use, its user in range, a writer has the right, and a reader the right to read
 unfoldable pub seated : List ℕ → Lun → Bool
 seated img u =
-    not (u .held)
-    or not (unused (entryAt img (u .slot))) and leb (u .user) lastUser
+    not (unused (entryAt img (u .slot))) and leb (u .user) lastUser
     and (not (writes (u .mode)) or hasRight (u .user) (owner (entryAt img (u .slot))))
     and readsByRight img u
-
--- a held LUN's place exists
-unfoldable pub stands : List ℕ → Lun → Bool
-stands img u = not (u .held) or placeExists img (entryAt img (u .slot)) (u .place)
 
 -- a place in a file of that many records, or sectors if it is contiguous
 unfoldable pub placeWithin : Bool → ℕ → Place → Bool

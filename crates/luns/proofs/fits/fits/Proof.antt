@@ -1,53 +1,104 @@
+-- The loop's invariant: what is left fits as the whole does.
 use mathlib.Core.Path.{_≡_, sym, _∙_}
-use lib.ListN.{length}
+use Prim.Native.Nat.{_-_}
+use native.Mathlib.Omega.{arith}
+use lib.ListN.{drop, length}
 use borrow.Author.Needs.{needs}
 use borrow.Author.Tests.{not-true, not-false}
+use Rattle.luns.specs.Luns.{freeLun, fits}
 use Rattle.luns.proofs.Arrays.{length-of-map}
-use Rattle.luns.proofs.FitLaws.{fits-unseated, fits-clash, fits-stands}
+use Rattle.luns.proofs.Walks.{leftFits, whole-fits, left-free, left-unfit, left-clash, left-more, left-end}
 use Rattle.luns.proofs.fits.fits.Statement.{statement}
 use Rattle.luns.proofs.fits.fits.Tie as tie
 
-long : (c : tie.Start) → length (c .args .luns) ≡ 16
+abbrev Inv-loop : tie.InvT-loop
+Inv-loop image p luns j₀ j = fits image luns ≡ leftFits image (drop j luns)
+
+abbrev μ-loop : tie.MeasureT-loop
+μ-loop image p luns j₀ j = 16 - j
+
+long : (c : tie.Start Inv-loop μ-loop) → length (c .args .t3) ≡ 16
 long c = search (needs, length-of-map)
 
-all-seated-requires : tie.Need-all-seated-requires
-all-seated-requires c κs = search needs
+loop-holds : tie.Need-loop-holds Inv-loop μ-loop
+loop-holds c = whole-fits _ _ (long (c .before))
 
-returns : tie.Need-returns
+mul-u : tie.Need-mul-u Inv-loop μ-loop
+mul-u c = search needs
+
+array-copy-out-u : tie.Need-array-copy-out-u Inv-loop μ-loop
+array-copy-out-u c = search needs
+
+add-j : tie.Need-add-j Inv-loop μ-loop
+add-j c = search needs
+
+loop-less : tie.Need-loop-less Inv-loop μ-loop
+loop-less c = search needs
+
+loop-again : tie.Need-loop-again Inv-loop μ-loop
+unfolding freeLun
+loop-again c =
+    let at = c .before .before .before .before in
+    let l = at .loop in
+    l .inv ∙ left-free _ _ (l .j) (omega (arith, long (at .before .before))) (not-true _ (c .if1 .taken))
+
+fit-requires : tie.Need-fit-requires Inv-loop μ-loop
+fit-requires c κs =
+    let s = c .before .before .before .before .before .before in
+    (s .pre .0, s .pre .1, not-false _ (c .if1 .left))
+
+returns : tie.Need-returns Inv-loop μ-loop
+unfolding freeLun
 returns c =
-    fits-unseated _ _ (long (c .before .before .before)) (sym (c .before .all-seated .ensures) ∙ not-true _ (c .if1 .taken))
+    let at = c .before .before .before .before .before .before in
+    let l = at .loop in
+    sym (l .inv ∙ left-unfit _ _ (l .j) (omega (arith, long (at .before .before))) (sym (c .before .fit .ensures) ∙ not-true _ (c .if2 .taken)))
 
-all-agree-requires : tie.Need-all-agree-requires
-all-agree-requires c κs = search needs
+agrees-from-requires : tie.Need-agrees-from-requires Inv-loop μ-loop
+agrees-from-requires c κs = search needs
 
-returns-2 : tie.Need-returns-2
+returns-2 : tie.Need-returns-2 Inv-loop μ-loop
+unfolding freeLun
 returns-2 c =
-    let at-before = c .before .before .before .before .before in
-    let before = at-before in
-    let s = before in
-    fits-clash _ _ (long s) (sym (c .before .all-agree .ensures) ∙ not-true _ (c .if2 .taken))
+    let at = c .before .before .before .before .before .before .before .before in
+    let l = at .loop in
+    sym (l .inv ∙ left-clash _ _ (l .j) (omega (arith, long (at .before .before))) (sym (c .before .agrees-from .ensures) ∙ not-true _ (c .if3 .taken)))
 
-all-stand-requires : tie.Need-all-stand-requires
-all-stand-requires c κs =
-    let p = c .before .before in
-    let s = p .before .before .before in
-    (s .pre .0, s .pre .1, sym (p .before .all-seated .ensures) ∙ not-false _ (p .if1 .left))
+loop-less-2 : tie.Need-loop-less-2 Inv-loop μ-loop
+loop-less-2 c = search needs
 
-returns-3 : tie.Need-returns-3
+loop-again-2 : tie.Need-loop-again-2 Inv-loop μ-loop
+unfolding freeLun
+loop-again-2 c =
+    let f = c .before .before in
+    let at = f .before .before .before .before .before .before in
+    let l = at .loop in
+    l .inv
+    ∙ left-more _ _ (l .j) (omega (arith, long (at .before .before)))
+    (sym (f .before .fit .ensures) ∙ not-false _ (f .if2 .left))
+    (sym (c .before .agrees-from .ensures) ∙ not-false _ (c .if3 .left))
+
+returns-3 : tie.Need-returns-3 Inv-loop μ-loop
 returns-3 c =
-    let p = c .before .before .before in
-    c .all-stand .ensures
-    ∙ fits-stands _ _ (long (p .before .before .before))
-    (sym (p .before .all-seated .ensures) ∙ not-false _ (p .if1 .left))
-    (sym (c .before .before .all-agree .ensures) ∙ not-false _ (c .before .if2 .left))
+    let l = c .before .loop in
+    sym (l .inv ∙ left-end _ _ (l .j) (omega (arith, long (c .before .before .before))))
 
 pub fits-spec : {M : Type 1} → statement M
 fits-spec =
     tie.close
     (tie.spec
-    all-seated-requires
+    Inv-loop
+    μ-loop
+    loop-holds
+    mul-u
+    array-copy-out-u
+    add-j
+    loop-less
+    loop-again
+    fit-requires
     returns
-    all-agree-requires
+    agrees-from-requires
     returns-2
-    all-stand-requires
+    loop-less-2
+    loop-again-2
     returns-3)
