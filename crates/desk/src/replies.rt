@@ -48,7 +48,7 @@ impl Desk {
         }
     }
 
-    // Of a transfer: the LUN moves to what was moved.
+    // Of a transfer: the LUN moves to what was moved, here and not by calls, each of which would copy the desk.
     pub(crate) fn settle(self, lun: u32, w: Worked) -> Reply
         requires { ⌜ lun < lunCount ⌝ }
         ensures { λ r. ⌜ r ≡ settled self lun w ⌝ }
@@ -56,10 +56,14 @@ impl Desk {
         match w {
             Worked::Did { bytes, from, count } => {
                 let place = Place::At { i: from, n: count };
-                Reply::done(
-                    Report::Moved(bytes),
-                    self.put(lun, self.lun(lun).moved_to(place)),
-                )
+                let at = lun as usize;
+                let mut luns = self.luns;
+                let u = luns[at];
+                luns[at] = u.moved_to(place);
+                Reply {
+                    answer: Answer::Done(Report::Moved(bytes)),
+                    desk: Desk { luns: luns },
+                }
             }
             Worked::Denied(why) => Reply::refused(why, self),
         }

@@ -4,18 +4,22 @@ ghost use Prim.Native.Nat.{_<_};
 ghost use Rattle.numbers.specs.Numbers.{lunCount};
 ghost use Rattle.desk.specs.Desk.{emptyDesk, lunAt, putLun, mine, spare};
 use crate::Desk;
+use deskbytes::DESK_BYTES;
+use deskbytes::unpack;
 use luns::Lun;
 use numbers::LAST_USER;
 use numbers::LUNS;
 
 impl Desk {
-    /// The desk with every LUN free.
+    /// The desk with every LUN free, out of its bytes: an array of constants would be taken apart by the compiler, and every function that
+    /// hands a desk on would then move it field by field.
     pub fn empty() -> Desk
         ensures { λ r. ⌜ r ≡ emptyDesk ⌝ }
     {
-        let free = Lun::free();
-        let luns = [free; LUNS];
-        Desk { luns: luns }
+        let bytes = [0u8; DESK_BYTES];
+        Desk {
+            luns: unpack(&bytes),
+        }
     }
 
     /// One LUN.

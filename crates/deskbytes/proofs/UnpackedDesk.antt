@@ -4,7 +4,7 @@ use mathlib.Core.Bool.{true}
 use mathlib.Core.List.{List, [], _∷_, map}
 use Prim.Native.Nat.{ℕ, zero, suc, _*_}
 use native.Mathlib.Omega.{arith}
-use lib.ListN.{length, length-map, length-take, length-drop, getD, take, drop, take-append-drop}
+use lib.ListN.{length, length-map, length-take, length-drop, getD, replicate, take, drop, take-append-drop}
 use borrow.Author.Tests.{eqb-true}
 use Rattle.numbers.specs.Numbers.{lunCount}
 use Rattle.lists.specs.Lists.{all, flat, pieces}
@@ -52,6 +52,11 @@ form-each bs f = and-right _ _ f
 pub length-unpacked : (bs : List ℕ) → length (unpackedLuns bs) ≡ lunCount
 unfolding unpackedLuns
 length-unpacked bs = length-map (pieces lunCount lunBytes bs) unpackedLun ∙ length-pieces lunCount lunBytes bs
+
+-- zeros are sixteen free LUNs
+pub unpacked-zeros : unpackedLuns (replicate deskSize 0) ≡ replicate lunCount freeLun
+unfolding unpackedLuns unpackedLun pieces
+unpacked-zeros = refl
 
 pub unpacked-back : (bs : List ℕ) → Bytes bs → deskForm bs ≡ true → packedLuns (unpackedLuns bs) ≡ bs
 unfolding packedLuns unpackedLuns
