@@ -45,16 +45,16 @@ pub judged-unsound : (img : List ℕ) → ownerSound img ≡ false → Unsound �
 unfolding judgedOf
 judged-unsound img h = rw h
 
-pub sound-judged : (img : List ℕ) (p : Layout) (n : ℕ) → judgedOf img ≡ Sound p n → OwnerSound img p × (n ≡ length (usedSlots img)) × (ownerSound img ≡ true)
+pub sound-judged : (img : List ℕ) (p : Layout) (n : ℕ) → judgedOf img ≡ Sound p n → OwnerSound img p × (n ≡ length (usedSlots img))
 unfolding judgedOf
 sound-judged img p n e = go (ownerSound img) refl e
   where
     go : (b : Bool) → ownerSound img ≡ b → (if b then Sound (layoutOf img) (length (usedSlots img)) else Unsound) ≡ Sound p n
-        → OwnerSound img p × (n ≡ length (usedSlots img)) × (ownerSound img ≡ true)
+        → OwnerSound img p × (n ≡ length (usedSlots img))
     go true h e =
         let q : layoutOf img ≡ p = cc in
         let m : n ≡ length (usedSlots img) = cc in
-        (rw q at (owner-sound img h), m, h)
+        (rw q at (owner-sound img h), m)
     go false h e = absurd (let z : _≡_ {A = ℕ} 0 1 = cc in omega arith)
 
 pub unsound-judged : (img : List ℕ) → judgedOf img ≡ Unsound → ownerSound img ≡ false

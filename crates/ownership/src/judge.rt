@@ -1,10 +1,11 @@
 // Any bytes judged: points 1, 2, 3 (but for the streams' tails) and 5 of soundness, each once.
-ghost use mathlib.Core.Bool.{true};
 ghost use mathlib.Core.Path.{_≡_};
 ghost use Prim.Native.Nat.{_*_, _≤_};
 ghost use lib.ListN.{length};
 ghost use Rattle.numbers.specs.Numbers.{mostDirs};
+ghost use Rattle.lists.specs.Lists.{if_then_else_};
 ghost use Rattle.lists.specs.Parts.{over};
+ghost use Rattle.volume.specs.Volume.{sound1};
 ghost use Rattle.volume.specs.Code.Located.{Located};
 ghost use Rattle.volume.specs.Code.Used.{usedSlots};
 ghost use Rattle.ownership.specs.Code.Verdict.{ownerSound, judgedOf};
@@ -35,11 +36,12 @@ fn judge_listed(img: &[u8], p: Layout, used: &[u8]) -> bool
     owners_sound(img, p, used)
 }
 
-/// Any bytes of any length are judged. Of a volume that is sound but for its streams, `used` has at its front the slots in use.
+/// Any bytes of any length are judged. Where point 1 holds, `used` gets at its front the slots in use.
 pub fn judge(img: &[u8], used: &mut [u8]) -> Judged
     requires { ⌜ 8 * mostDirs ≤ length (now used) ⌝ }
     ensures { λ r. ⌜ (r ≡ judgedOf (now (img .entry)))
-        × (ownerSound (now (img .entry)) ≡ true → now (used .exit) ≡ over (usedSlots (now (img .entry))) (now (used .entry))) ⌝ }
+        × (now (used .exit) ≡ (if sound1 (now (img .entry))
+        then over (usedSlots (now (img .entry))) (now (used .entry)) else now (used .entry))) ⌝ }
 {
     let found = locate(img);
     let Where::At(p) = found else {

@@ -31,7 +31,8 @@ fn gap(img: &[u8], p: Layout, k: usize) -> usize
 /// Lists the slots in use at the front of `used`, and answers how many they are.
 pub fn list_used(img: &[u8], p: Layout, used: &mut [u8]) -> usize
     requires { ⌜ Located (now img) p × (8 * mostDirs ≤ length (now used)) ⌝ }
-    ensures { λ n. ⌜ (n ≡ length (usedSlots (now (img .entry)))) × (now (used .exit) ≡ over (usedSlots (now (img .entry))) (now (used .entry))) ⌝ }
+    ensures { λ n. ⌜ (n ≡ length (usedSlots (now (img .entry))))
+        × (now (used .exit) ≡ over (usedSlots (now (img .entry))) (now (used .entry))) ⌝ }
 {
     let end = 8 * p.dirs;
     let mut n = 0;

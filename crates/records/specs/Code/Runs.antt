@@ -21,4 +21,5 @@ runEnd ss k = first (breaksAt ss) (k + 1) (length ss - (k + 1))
 
 -- the run of the stream from p on: where its byte p stands in the image, and up to which place the bytes after it follow it there
 unfoldable pub runFrom : List ℕ → ℕ → Run
-runFrom ss p = if ltb (p / 256) (length ss) then record { at = addressOf ss p; end = 256 * runEnd ss (p / 256) } else record { at = 0; end = 0 }
+runFrom ss p =
+    if ltb (p / 256) (length ss) then record { at = addressOf ss p; end = 256 * runEnd ss (p / 256) } else record { at = 0; end = 0 }

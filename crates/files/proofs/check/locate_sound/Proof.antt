@@ -40,13 +40,9 @@ slice-aggregate-contents-sound c =
 contents-sound-requires : tie.Need-contents-sound-requires
 contents-sound-requires c κs =
     let s = c .before .before .before .before .before .before .before .before in
-    let h = sound-judged _ _ _ (sym (c .before .before .before .before .before .judge .ensures .0) ∙ c .before .before .verdict .given .1) in (
-      h .0 .located,
-      h .0 .point3,
-      owners-once _ _ (h .0),
-      rw (h .1, c .before .before .before .before .before .judge .ensures .1 (h .2)) (over-front
-          (usedSlots (now (s .args .img))) _),
-    )
+    let h = sound-judged _ _ _ (sym (c .before .before .before .before .before .judge .ensures .0) ∙ c .before .before .verdict .given .1) in
+    let u = rw (h .0 .located .sound-1) at (c .before .before .before .before .before .judge .ensures .1) in
+    (h .0 .located, h .0 .point3, owners-once _ _ (h .0), rw (h .1, u) (over-front (usedSlots (now (s .args .img))) _))
 
 returns-2 : tie.Need-returns-2
 returns-2 c =

@@ -1,4 +1,3 @@
-use mathlib.Core.Bool.{true≢false}
 use mathlib.Core.Path.{refl, sym, _∙_}
 use native.Mathlib.Omega.{arith}
 use lib.Seq.{length-take-le}
@@ -23,8 +22,8 @@ enum-told c = search needs
 
 returns : tie.Need-returns
 returns c =
-    let no = fails-1 _ (nowhere _ (sym (c .before .before .locate .ensures) ∙ c .enum-told .given .1)) in
-    (judged-unsound _ no, λ y. absurd (true≢false (sym y ∙ no)))
+    let none = nowhere _ (sym (c .before .before .locate .ensures) ∙ c .enum-told .given .1) in
+    (judged-unsound _ (fails-1 _ none), rw none)
 
 list-used-requires : tie.Need-list-used-requires
 list-used-requires c κs =
@@ -73,19 +72,18 @@ same-length c = search needs
 returns-2 : tie.Need-returns-2
 returns-2 c =
     let u = c .before .before .before .before .before .list-used in
-    let yes = sym (c .before .judge-listed .ensures) ∙ c .if1 .taken in (
-      judged-sound _ _ _ (located _ _ (sym (c .before .before .before .before .before .before .before .before .before .before .locate .ensures)
-          ∙ c .before .before .before .before .before .before .before .before .found .given .1)) (u .ensures .0) yes,
-      λ y. u .ensures .1,
-    )
+    let l = located _ _ (sym (c .before .before .before .before .before .before .before .before .before .before .locate .ensures)
+    ∙ c .before .before .before .before .before .before .before .before .found .given .1) in
+    (judged-sound _ _ _ l (u .ensures .0) (sym (c .before .judge-listed .ensures) ∙ c .if1 .taken), rw (l .sound-1) (u .ensures .1))
 
 same-length-2 : tie.Need-same-length-2
 same-length-2 c = search needs
 
 returns-3 : tie.Need-returns-3
 returns-3 c =
-    let no = sym (c .before .judge-listed .ensures) ∙ c .if1 .left in
-    (judged-unsound _ no, λ y. absurd (true≢false (sym y ∙ no)))
+    let l = located _ _ (sym (c .before .before .before .before .before .before .before .before .before .before .locate .ensures)
+    ∙ c .before .before .before .before .before .before .before .before .found .given .1) in
+    (judged-unsound _ (sym (c .before .judge-listed .ensures) ∙ c .if1 .left), rw (l .sound-1) (c .before .before .before .before .before .list-used .ensures .1))
 
 pub judge-spec : {M : Type 1} → statement M
 judge-spec =

@@ -50,7 +50,10 @@ add-marks : tie.Need-add-marks
 add-marks c =
     let known = c .before in
     let start = known .before .before in
-    record { fits = bits-fit (start .args .marks .now) (start .args .s) (start .args .n) (λ i. known .slice-known .given i .fits) (omega arith) (known .before .if1 .left) (start .pre .2) (c .if2 .left) _ (omega arith) }
+    record {
+      fits = bits-fit (start .args .marks .now) (start .args .s) (start .args .n) (λ i. known .slice-known .given i .fits) (omega arith)
+          (known .before .if1 .left) (start .pre .2) (c .if2 .left) _ (omega arith);
+    }
 
 slice-write-marks : tie.Need-slice-write-marks
 slice-write-marks c = search needs
