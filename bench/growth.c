@@ -27,10 +27,9 @@ static const uint8_t *name_of(unsigned file)
     return name;
 }
 
-static void ask(unsigned code, unsigned function, unsigned selector, unsigned lun, unsigned record, size_t length)
+static void ask(unsigned function, unsigned selector, unsigned lun, unsigned record, size_t length)
 {
     memset(block, 0, sizeof block);
-    block[TWYNARVEL_BLOCK_CODE] = (uint8_t)code;
     block[TWYNARVEL_BLOCK_FUNCTION] = (uint8_t)function;
     block[TWYNARVEL_BLOCK_OPTIONS] = (uint8_t)((selector | TWYNARVEL_IMAGE) / 256);
     block[TWYNARVEL_BLOCK_OPTIONS + 1] = (uint8_t)(selector | TWYNARVEL_IMAGE);
@@ -108,12 +107,18 @@ static void no_run(void)
     done("delete", delete_run());
 }
 
-static void sector_read(void) { ask(TWYNARVEL_TRANSFER, TWYNARVEL_READ, TWYNARVEL_RANDOM, 1, 0, RUN * SECTOR); }
-static void sector_write(void) { ask(TWYNARVEL_TRANSFER, TWYNARVEL_WRITE, TWYNARVEL_RANDOM, 1, 0, RUN * SECTOR); }
-static void record_read(void) { ask(TWYNARVEL_TRANSFER, TWYNARVEL_READ, TWYNARVEL_RANDOM, 0, records[last] - 1, LONGEST); }
-static void record_append(void) { ask(TWYNARVEL_TRANSFER, TWYNARVEL_WRITE, TWYNARVEL_NEXT, 0, 0, LONGEST); }
-static void record_update(void) { ask(TWYNARVEL_TRANSFER, TWYNARVEL_UPDATE, TWYNARVEL_RANDOM, 0, records[last] - 1, LONGEST); }
-static void file_rewind(void) { ask(TWYNARVEL_COMMAND, TWYNARVEL_REWIND, 0, 0, 0, 1); }
+static void sector_read(void) { ask(TWYNARVEL_READ, TWYNARVEL_RANDOM, 1, 0, RUN * SECTOR); }
+static void sector_write(void) { ask(TWYNARVEL_WRITE, TWYNARVEL_RANDOM, 1, 0, RUN * SECTOR); }
+static void record_read(void) { ask(TWYNARVEL_READ, TWYNARVEL_RANDOM, 0, records[last] - 1, LONGEST); }
+static void record_append(void) { ask(TWYNARVEL_WRITE, TWYNARVEL_NEXT, 0, 0, LONGEST); }
+static void record_update(void) { ask(TWYNARVEL_UPDATE, TWYNARVEL_RANDOM, 0, records[last] - 1, LONGEST); }
+
+static void file_rewind(void) /* a command has no options, and no part */
+{
+    memset(block, 0, sizeof block);
+    block[TWYNARVEL_BLOCK_CODE] = TWYNARVEL_COMMAND;
+    block[TWYNARVEL_BLOCK_FUNCTION] = TWYNARVEL_REWIND;
+}
 
 static const struct {
     const char *name;
@@ -152,7 +157,7 @@ static void fill(unsigned file, unsigned sectors)
     unsigned length = 1 + drawn(LONGEST);
     done("assign", assign(file, 0));
     while (ends[file] + 2 + length + length % 2 <= SECTOR * sectors) {
-        ask(TWYNARVEL_TRANSFER, TWYNARVEL_WRITE, TWYNARVEL_NEXT, 0, 0, length);
+        ask(TWYNARVEL_WRITE, TWYNARVEL_NEXT, 0, 0, length);
         done("append", transfer());
         ends[file] += 2 + length + length % 2;
         records[file]++;
@@ -182,7 +187,7 @@ static void make(unsigned number)
             fill(file, sectors);
     }
     done("assign", assign(last, 0));
-    ask(TWYNARVEL_TRANSFER, TWYNARVEL_WRITE, TWYNARVEL_NEXT, 0, 0, LONGEST);
+    ask(TWYNARVEL_WRITE, TWYNARVEL_NEXT, 0, 0, LONGEST);
     done("append", transfer());
     records[last]++;
     done("assign", assign(0, 1));
