@@ -64,7 +64,10 @@ static uint32_t bring_up(void)
 
 static uint32_t compact(void)
 {
-    return twynarvel_compact(image, sizeof image, desk, sizeof desk, TWYNARVEL_MOST_QUOTA, report, sizeof report);
+    uint32_t status = twynarvel_compact(image, sizeof image, desk, sizeof desk, TWYNARVEL_MOST_QUOTA, report, sizeof report);
+    if (report[TWYNARVEL_REPORT_ENDING] != TWYNARVEL_SETTLED || report[TWYNARVEL_REPORT_MOVED] + report[TWYNARVEL_REPORT_MOVED + 1] != 0)
+        fail("a settled volume was closed up", report[TWYNARVEL_REPORT_ENDING]);
+    return status;
 }
 
 static uint32_t allocate(unsigned file, uint32_t kind, uint32_t size)
