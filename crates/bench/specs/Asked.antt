@@ -1,7 +1,7 @@
 -- What the timed functions answer, whichever way they search. Defines no heading of RULES: nothing of the service cites it.
-use Rattle.std.specs.Prelude.{◌≡◌, Bool, List, [], ℕ, length, take, eqb, leb}
+use Rattle.std.specs.Prelude.{if◌then◌else◌, ◌≡◌, Bool, List, [], ℕ, length, take, eqb, leb}
 use Rattle.numbers.specs.Numbers.{most_sectors}
-use Rattle.lists.specs.Lists.{if◌then◌else◌, ◌and◌, range, kept}
+use Rattle.lists.specs.Lists.{◌and◌, range, kept}
 use Rattle.lists.specs.Parts.{over}
 use Rattle.volume.specs.Sat.{is_free}
 

@@ -1,4 +1,5 @@
 -- What a step changes: the highest data sector is free, the lowest free one has its data, and each search goes on from where it found.
+use Rattle.std.specs.Prelude.{if◌then◌else◌}
 use mathlib.Core.Path.{◌≡◌, refl, sym, ap, ◌∙◌}
 use mathlib.Core.Logic.{◌≢◌}
 use mathlib.Core.Bool.{Bool, true, false, true≢false}
@@ -8,7 +9,7 @@ use native.Mathlib.Omega.{arith}
 use native.Mathlib.Decide.{dec_lt, ℕ_discrete}
 use lib.Dec.{eqb}
 use borrow.Author.Tests.{eqb-true, eqb-false, eq-eqb, ne_eqb}
-use Rattle.lists.specs.Lists.{if◌then◌else◌, among, topmost, first}
+use Rattle.lists.specs.Lists.{among, topmost, first}
 use Rattle.lists.specs.Parts.{sectors}
 use Rattle.lists.proofs.Tests.{is_false}
 use Rattle.lists.proofs.Ranges.{first_skip}

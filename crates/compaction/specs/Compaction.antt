@@ -1,7 +1,7 @@
 -- Closing up a volume: which sector a step moves and where to, and steps up to a quota. Defines RULES, Compact (what it does).
-use Rattle.std.specs.Prelude.{Bool, true, false, List, [], ℕ, zero, suc, ◌+◌, eqb, leb, ltb, length}
+use Rattle.std.specs.Prelude.{if◌then◌else◌, Bool, true, false, List, [], ℕ, zero, suc, ◌+◌, eqb, leb, ltb, length}
 use Rattle.numbers.specs.Numbers.{most_segments}
-use Rattle.lists.specs.Lists.{if◌then◌else◌, ◌or◌, first, topmost, some, index, among}
+use Rattle.lists.specs.Lists.{◌or◌, first, topmost, some, index, among}
 use Rattle.lists.specs.Parts.{sectors}
 use Rattle.volume.specs.Volume.{sat}
 use Rattle.volume.specs.Directory.{entries, entry_at, unused, contiguous}

@@ -1,4 +1,5 @@
 -- What a volume holds is counted in 32 bits: a file's records or sectors, and free sectors.
+use Rattle.std.specs.Prelude.{if◌then◌else◌}
 use mathlib.Core.Path.{◌≡◌, refl}
 use mathlib.Core.Bool.{Bool, true, false}
 use mathlib.Core.List.{List, [], ◌∷◌}
@@ -6,7 +7,7 @@ use Prim.Native.Nat.{ℕ, suc, ◌≤◌, ◌<◌}
 use native.Mathlib.Omega.{arith}
 use lib.ListN.{length}
 use Rattle.numbers.specs.Numbers.{most_sectors}
-use Rattle.lists.specs.Lists.{if◌then◌else◌, range, kept}
+use Rattle.lists.specs.Lists.{range, kept}
 use Rattle.lists.specs.Parts.{sectors}
 use Rattle.lists.proofs.Ranges.{length-range}
 use Rattle.volume.specs.Volume.{sat}

@@ -1,9 +1,9 @@
 -- The calls as values. Defines RULES, The calls (with all of Format to Update); Orders of refusals. Of each call: its rules in its own
 -- order, its change, the buffer that it was lent, the bytes that it was sent, and what it may touch. `step` is what every public function
 -- states of itself.
-use Rattle.std.specs.Prelude.{Bool, not, true, List, [], ◌∷◌, ◌++◌, ◌≡◌, ℕ, ◌-◌, leb, ltb, length}
+use Rattle.std.specs.Prelude.{if◌then◌else◌, Bool, not, true, List, [], ◌∷◌, ◌++◌, ◌≡◌, ℕ, ◌-◌, leb, ltb, length}
 use Rattle.numbers.specs.Numbers.{last_user, most_quota}
-use Rattle.lists.specs.Lists.{if◌then◌else◌, ◌or◌, ◌and◌, all}
+use Rattle.lists.specs.Lists.{◌or◌, ◌and◌, all}
 use Rattle.lists.specs.Parts.{sectors}
 use Rattle.volume.specs.Names.{user_of}
 use Rattle.volume.specs.Directory.{entry_at}

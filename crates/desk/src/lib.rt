@@ -1,6 +1,8 @@
 // The public face: the desk of sixteen logical units (LUNs), and the twelve calls as its methods: format, check, bring-up and compact
 // (volumes), allocate, delete, assign, close, rewind, read, write, update. Each takes any image, any desk and any numbers, hands the desk
 // back in its reply, and states one equation: answer, image, desk and buffer are those of `step` of specs/Calls.
+#![tactic(auto)]
+
 use compaction::Ending;
 use luns::Lun;
 use numbers::LUNS;
@@ -16,14 +18,14 @@ pub mod transfers;
 pub mod volumes;
 
 /// The sixteen LUNs.
-#[derive(Drop)]
+#[derive(Clone, Copy)]
 pub struct Desk {
     pub luns: [Lun; LUNS],
 }
 
 /// What a call that was carried out tells: the data bytes moved; check's verdict, with the free sectors; or the sectors that a compaction
 /// moved, and why it ended.
-#[derive(Drop)]
+#[derive(Clone, Copy)]
 pub enum Report {
     Moved(u32),
     Checked { sound: bool, free: u32 },
@@ -31,14 +33,14 @@ pub enum Report {
 }
 
 /// What a call answers: done, with its report; or refused.
-#[derive(Drop)]
+#[derive(Clone, Copy)]
 pub enum Answer {
     Done(Report),
     Refused(Refusal),
 }
 
 /// What every call hands back: its answer, and the desk after it.
-#[derive(Drop)]
+#[derive(Clone, Copy)]
 pub struct Reply {
     pub answer: Answer,
     pub desk: Desk,

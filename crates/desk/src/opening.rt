@@ -13,14 +13,14 @@ use volume::locate::{Layout, Where};
 use work::Refusal;
 
 /// A call that began: where things are on the sound volume that the desk fits; or why it is refused.
-#[derive(Drop)]
+#[derive(Clone, Copy)]
 pub enum Begun {
     At(Layout),
     Refused(Refusal),
 }
 
 /// What a transfer aims at: the volume's layout, the directory slot of its file, and the record or sector.
-#[derive(Drop)]
+#[derive(Clone, Copy)]
 pub struct Aim {
     pub p: Layout,
     pub slot: usize,
@@ -28,7 +28,7 @@ pub struct Aim {
 }
 
 /// A transfer that is open: what it aims at; or why it is refused.
-#[derive(Drop)]
+#[derive(Clone, Copy)]
 pub enum Opened {
     At(Aim),
     Refused(Refusal),

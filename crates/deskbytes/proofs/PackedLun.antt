@@ -1,4 +1,5 @@
 -- A plain LUN's twelve bytes are bytes, have the form, and are read back as that LUN.
+use Rattle.std.specs.Prelude.{if◌then◌else◌}
 use mathlib.Core.Path.{◌≡◌, refl, ap, ◌∙◌}
 use mathlib.Core.Bool.{Bool, true, false, not}
 use mathlib.Core.List.{◌∷◌, ◌++◌}
@@ -6,7 +7,7 @@ use Prim.Native.Nat.{ℕ, ◌+◌, ◌*◌, ◌/◌, ◌%◌, ◌<◌, ◌≤◌
 use native.Mathlib.Omega.{arith}
 use lib.Dec.{eqb}
 use borrow.Author.Tests.{ne_eqb, le-leb}
-use Rattle.lists.specs.Lists.{if◌then◌else◌, ◌or◌}
+use Rattle.lists.specs.Lists.{◌or◌}
 use Rattle.lists.specs.Parts.{bytes2, bytes4, blanks, long}
 use Rattle.lists.proofs.AreBytes.{Bytes}
 use Rattle.lists.proofs.ByteLists.{Bytes-cons, Bytes-append, Bytes-bytes2, Bytes-blanks}

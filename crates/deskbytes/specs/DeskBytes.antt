@@ -1,7 +1,7 @@
 -- Sixteen LUNs as 192 bytes, and back. Defines RULES, Desk bytes.
-use Rattle.std.specs.Prelude.{Bool, true, false, not, List, ◌∷◌, ◌++◌, map, ◌≡◌, ℕ, ◌*◌, ◌%◌, ◌<◌, ◌≤◌, eqb, leb, length, get_or}
+use Rattle.std.specs.Prelude.{if◌then◌else◌, Bool, true, false, not, List, ◌∷◌, ◌++◌, map, ◌≡◌, ℕ, ◌*◌, ◌%◌, ◌<◌, ◌≤◌, eqb, leb, length, get_or}
 use Rattle.numbers.specs.Numbers.{lun_count}
-use Rattle.lists.specs.Lists.{if◌then◌else◌, ◌and◌, ◌or◌, all, flat, pieces}
+use Rattle.lists.specs.Lists.{◌and◌, ◌or◌, all, flat, pieces}
 use Rattle.lists.specs.Parts.{byte, word, long, bytes2, bytes4, blanks, zeros}
 use Rattle.luns.specs.declared.Lun.{Lun}
 use Rattle.luns.specs.declared.Place.{Place}

@@ -1,4 +1,6 @@
 // Sixteen LUNs kept as 192 bytes, twelve a LUN: packed, judged, and read back.
+#![tactic(auto)]
+
 ghost use Rattle.std.specs.Prelude.{◌≡◌, length};
 ghost use Rattle.deskbytes.specs.DeskBytes.{lun_bytes, desk_size, count_of, first_of, packed_lun, packed_luns};
 ghost use Rattle.deskbytes.specs.DeskBytes.{lun_form, desk_form, place_in, unpacked_lun, unpacked_luns};

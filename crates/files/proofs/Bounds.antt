@@ -1,4 +1,5 @@
 -- What a file holds is counted in 32 bits: it lies in a volume of at most 2,048 sectors, and has no more records than bytes.
+use Rattle.std.specs.Prelude.{if◌then◌else◌}
 use mathlib.Core.List.{List, [], ◌∷◌}
 use mathlib.Core.Path.{◌≡◌, refl, ap, ◌∙◌}
 use mathlib.Core.Bool.{Bool, true, false}
@@ -8,7 +9,7 @@ use native.Mathlib.Nat.{div-le_self}
 use lib.ListN.{length}
 use lib.Dec.{eqb}
 use Rattle.numbers.specs.Numbers.{most_sectors}
-use Rattle.lists.specs.Lists.{if◌then◌else◌, pieces}
+use Rattle.lists.specs.Lists.{pieces}
 use Rattle.lists.specs.Parts.{sector}
 use Rattle.lists.proofs.Pieces.{length-pieces}
 use Rattle.volume.specs.Directory.{entry_at, unused, contiguous, start, size, record_length}

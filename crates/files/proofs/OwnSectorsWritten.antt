@@ -49,7 +49,7 @@ module _ (v : List ℕ) (F : Facts v) (k : ℕ) (hk : k < 8 * dirs v) where
 
   pub slot_placed : placed v (entry_at v k) ≡ true
   unfolding entry_at
-  slot_placed = all_at (placed v) (entries v) k [] F.each_Placed (omega (arith, length-entries v))
+  slot_placed = all_at (placed v) (entries v) k [] F.each_placed (omega (arith, length-entries v))
 
   pub slot_content : tail_sound v (entry_at v k) and records_sound v (entry_at v k) ≡ true
   unfolding entry_at

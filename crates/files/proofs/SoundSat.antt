@@ -44,7 +44,7 @@ module _ (v : List ℕ) (F : Facts v) where
 
   pub slot_below : (k : ℕ) → k < 8 * dirs v → all (λ u. ltb u (sectors v)) (owned v (entry_at v k)) ≡ true
   unfolding entry_at
-  slot_below k h = owned-within v (entry_at v k) (all_at (placed v) (entries v) k [] F.each_Placed (omega (arith, length-entries v)))
+  slot_below k h = owned-within v (entry_at v k) (all_at (placed v) (entries v) k [] F.each_placed (omega (arith, length-entries v)))
 
   -- a free sector of the volume is nobody's
   pub free_unowned : (u : ℕ) → u < sectors v → is_free (sat v) u ≡ true → among u (all_owned v) ≡ false

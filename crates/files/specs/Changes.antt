@@ -1,7 +1,7 @@
 -- What the calls make of an image, which is looked at as the call finds it. Defines RULES, Allocate; Delete; Write; Update; Bring-up
 -- (what they do).
-use Rattle.std.specs.Prelude.{List, ◌++◌, ℕ, ◌*◌, ◌-◌, ◌+◌, eqb, length, set}
-use Rattle.lists.specs.Lists.{if◌then◌else◌, range, flat}
+use Rattle.std.specs.Prelude.{if◌then◌else◌, List, ◌++◌, ℕ, ◌*◌, ◌-◌, ◌+◌, eqb, length, set}
+use Rattle.lists.specs.Lists.{range, flat}
 use Rattle.lists.specs.Parts.{put, blanks, in_sectors, put_sector, part}
 use Rattle.volume.specs.Volume.{sat, dir_at}
 use Rattle.volume.specs.Directory.{fields, entry, put_entry, entries, entry_at, record_length, start, record_count, with_count, counted_as}

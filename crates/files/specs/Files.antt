@@ -1,6 +1,6 @@
 -- A file's stream and records, the rest of soundness, and `sound` as a whole. Defines RULES, Streams and records; Soundness.
-use Rattle.std.specs.Prelude.{List, [], Bool, ℕ, eqb, take, drop, get_or, length}
-use Rattle.lists.specs.Lists.{if◌then◌else◌, ◌or◌, ◌and◌, all}
+use Rattle.std.specs.Prelude.{if◌then◌else◌, List, [], Bool, ℕ, eqb, take, drop, get_or, length}
+use Rattle.lists.specs.Lists.{◌or◌, ◌and◌, all}
 use Rattle.lists.specs.Parts.{zeros}
 use Rattle.volume.specs.Directory.{record_length, contiguous, size, record_count, unused, entries, sound2}
 use Rattle.volume.specs.Volume.{sound1}

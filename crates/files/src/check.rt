@@ -23,7 +23,7 @@ use volume::directory::{contiguous, entry_of, record_count, record_length, start
 use volume::locate::{Layout, Where};
 
 /// Sound or not, and the number of free sectors, 0 if not sound.
-#[derive(Drop)]
+#[derive(Clone, Copy)]
 pub struct Checked {
     pub sound: bool,
     pub free: usize,

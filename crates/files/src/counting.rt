@@ -1,6 +1,6 @@
 // Bring-up: a volume from before there were record counts is judged by the rule of before, and each sequential entry gets its count.
-ghost use Rattle.std.specs.Prelude.{◌≡◌, true, false, ℕ, ◌*◌, ◌≤◌, ◌<◌, length, get_or};
-ghost use Rattle.lists.specs.Lists.{all, distinct, if◌then◌else◌};
+ghost use Rattle.std.specs.Prelude.{if◌then◌else◌, ◌≡◌, true, false, ℕ, ◌*◌, ◌≤◌, ◌<◌, length, get_or};
+ghost use Rattle.lists.specs.Lists.{all, distinct};
 ghost use Rattle.volume.specs.Directory.{unused, contiguous, start, entries, entry_at};
 ghost use Rattle.volume.specs.Code.Located.{Located};
 ghost use Rattle.ownership.specs.Blocks.{sound3};

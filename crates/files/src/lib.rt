@@ -1,5 +1,7 @@
 // Layer two: files and records over the sectors of `ownership`. A volume is judged sound or not, of any bytes; a file's records are
 // found, read and replaced across sector borders. Every function is proved equal to a definition of specs/.
+#![tactic(auto)]
+
 pub mod allocation;
 pub mod appending;
 pub mod check;

@@ -19,7 +19,7 @@ use records::record::Spot;
 use volume::locate::Layout;
 
 /// What came of replacing a record: there is none, or it has another length.
-#[derive(Drop)]
+#[derive(Clone, Copy)]
 pub enum Replaced {
     Done,
     Past,

@@ -1,8 +1,8 @@
 // Sectors that a file takes: the lowest free ones, marked, zero-filled, and listed in its access block.
-ghost use Rattle.std.specs.Prelude.{◌≡◌, ◌+◌, ◌≤◌, ◌<◌, ◌*◌, length, take, true, ltb, eqb, []};
+ghost use Rattle.std.specs.Prelude.{if◌then◌else◌, ◌≡◌, ◌+◌, ◌≤◌, ◌<◌, ◌*◌, length, take, true, ltb, eqb, []};
 ghost use Rattle.numbers.specs.Numbers.{most_sectors};
 ghost use Rattle.lists.specs.Parts.{over, sector, put_sector};
-ghost use Rattle.lists.specs.Lists.{range, kept, all, if◌then◌else◌};
+ghost use Rattle.lists.specs.Lists.{range, kept, all};
 ghost use Rattle.volume.specs.Sat.{is_free, with_bits};
 ghost use Rattle.records.specs.Streams.{laid};
 ghost use Rattle.records.specs.Code.Mapped.{Mapped};

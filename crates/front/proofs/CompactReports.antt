@@ -1,4 +1,5 @@
 -- The report of a compaction: four bytes written, how many sectors it can tell of, and what becomes of it in each case.
+use Rattle.std.specs.Prelude.{if◌then◌else◌}
 use mathlib.Core.Path.{◌≡◌, refl, ap, ◌∙◌}
 use mathlib.Core.Bool.{Bool, true, false, not}
 use mathlib.Core.List.{List, [], ◌∷◌}
@@ -8,7 +9,6 @@ use lib.Dec.{eqb, ltb}
 use lib.ListN.{length, set}
 use borrow.Author.Tests.{eq-eqb, ne_eqb, ltb-false}
 use Rattle.numbers.specs.Numbers.{most_quota}
-use Rattle.lists.specs.Lists.{if◌then◌else◌}
 use Rattle.lists.specs.Parts.{bytes2, put}
 use Rattle.compaction.specs.Compaction.{compacted}
 use Rattle.compaction.specs.declared.Ending.{Ending}

@@ -1,11 +1,12 @@
 -- A request block, case by case: what its answer, image, desk bytes and areas are by the tests that led there.
+use Rattle.std.specs.Prelude.{if◌then◌else◌}
 use mathlib.Core.Bool.{Bool, true, false, not}
 use mathlib.Core.List.{List, [], ◌∷◌}
 use mathlib.Core.Path.{◌≡◌, refl, ap, sym, subst, ◌∙◌}
 use Prim.Native.Nat.{ℕ}
 use lib.ListN.{length}
 use borrow.Author.Tests.{eq-eqb, ne_eqb}
-use Rattle.lists.specs.Lists.{if◌then◌else◌, ◌and◌, ◌or◌}
+use Rattle.lists.specs.Lists.{◌and◌, ◌or◌}
 use Rattle.lists.specs.Parts.{put}
 use Rattle.lists.proofs.Puts.{put_none}
 use Rattle.work.specs.declared.Refusal.TheVariants.{NotSound, BadRequest, BadLength}

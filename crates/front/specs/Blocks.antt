@@ -1,6 +1,6 @@
 -- The request block: what its bytes ask for, and where the answer goes. Defines RULES, The request block; Codes.
-use Rattle.std.specs.Prelude.{Bool, not, List, [], ◌∷◌, ℕ, ◌/◌, ◌%◌, ◌^◌, eqb, length}
-use Rattle.lists.specs.Lists.{if◌then◌else◌, ◌and◌, ◌or◌, all}
+use Rattle.std.specs.Prelude.{if◌then◌else◌, Bool, not, List, [], ◌∷◌, ℕ, ◌/◌, ◌%◌, ◌^◌, eqb, length}
+use Rattle.lists.specs.Lists.{◌and◌, ◌or◌, all}
 use Rattle.lists.specs.Parts.{byte, word, long, bytes4, put}
 use Rattle.desk.specs.declared.Answer.{Answer}
 use Rattle.desk.specs.Answers.{status, moved}

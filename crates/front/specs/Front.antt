@@ -1,6 +1,6 @@
 -- The front: what each function that C calls leaves, in all cases. Defines RULES, The front.
-use Rattle.std.specs.Prelude.{not, List, [], ◌∷◌, ℕ, ◌+◌, eqb, length}
-use Rattle.lists.specs.Lists.{if◌then◌else◌, ◌and◌}
+use Rattle.std.specs.Prelude.{if◌then◌else◌, not, List, [], ◌∷◌, ℕ, ◌+◌, eqb, length}
+use Rattle.lists.specs.Lists.{◌and◌}
 use Rattle.lists.specs.Parts.{bytes2}
 use Rattle.compaction.specs.declared.Ending.{Ending}
 use Rattle.compaction.specs.declared.Ending.TheVariants.{Settled, QuotaUsed, SegmentNeeded}

@@ -34,7 +34,7 @@ pub(crate) fn inside(start: usize, end: usize, task: &[u8], shared: &[u8]) -> bo
 }
 
 /// A part of one of the areas: whether it is the shared segment, and the part's bytes from one number up to another.
-#[derive(Drop)]
+#[derive(Clone, Copy)]
 pub struct Span {
     pub shared: bool,
     pub from: usize,

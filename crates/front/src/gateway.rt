@@ -1,5 +1,5 @@
-// The functions that C calls. Every area may have any length and hold any bytes; what the caller has to see to is said in
-// include/twynarvel.h. Each returns its answer's number of the status table; check, which has no other answer than $00, returns its
+// The functions that C calls, by the static library front_c. Every area may have any length and hold any bytes; what the caller has to see
+// to is said in include/twynarvel.h. Each returns its answer's number of the status table; check, which has no other answer than $00, returns its
 // verdict.
 ghost use Rattle.std.specs.Prelude.{◌≡◌, [], eqb, not};
 ghost use Rattle.desk.specs.Calls.{compact, allocate, assign, close, delete};
@@ -16,8 +16,7 @@ use work::Refusal;
 /// buffer is a part of the task's own area or of the shared segment. The answer's number goes to the block's byte 4 and its length to bytes
 /// $14 to $17. Refuses $84 for a block of another length than 28, which is not written; then $6F for desk bytes that stand for no desk, $82
 /// for a code that is not supported, $84 for a part that is not wholly inside its area (transfers only); then in the call's own order.
-#[unsafe(no_mangle)]
-pub extern "C" fn twynarvel_iocb(
+pub fn twynarvel_iocb(
     block: &mut [u8],
     image: &mut [u8],
     desk: &mut [u8],
@@ -38,8 +37,7 @@ pub extern "C" fn twynarvel_iocb(
 
 /// Makes the whole image an empty volume, and the desk bytes an empty desk. Refuses $6F for another length than 192 of the desk bytes,
 /// which may be anything; then as the call does.
-#[unsafe(no_mangle)]
-pub extern "C" fn twynarvel_format(image: &mut [u8], desk: &mut [u8], id: &[u8], dirs: u32) -> u32
+pub fn twynarvel_format(image: &mut [u8], desk: &mut [u8], id: &[u8], dirs: u32) -> u32
     ensures { served result image.new desk.new
         ≡ serve_format id.now dirs image.old desk.old }
 {
@@ -51,8 +49,7 @@ pub extern "C" fn twynarvel_format(image: &mut [u8], desk: &mut [u8], id: &[u8],
 }
 
 /// The free sectors of a sound volume and $10000 more; 0 of one that is not sound. Never refuses.
-#[unsafe(no_mangle)]
-pub extern "C" fn twynarvel_check(image: &[u8]) -> u32
+pub fn twynarvel_check(image: &[u8]) -> u32
     ensures { result ≡ serve_check image.now }
 {
     let d = Desk::empty();
@@ -62,8 +59,7 @@ pub extern "C" fn twynarvel_check(image: &[u8]) -> u32
 }
 
 /// Gives a volume from before there were record counts its counts. Refuses $6F for any other image. It is lent no desk bytes.
-#[unsafe(no_mangle)]
-pub extern "C" fn twynarvel_bring_up(image: &mut [u8]) -> u32
+pub fn twynarvel_bring_up(image: &mut [u8]) -> u32
     ensures { served result image.new [] ≡ serve_bring_up image.old [] }
 {
     let d = Desk::empty();
@@ -75,13 +71,7 @@ pub extern "C" fn twynarvel_bring_up(image: &mut [u8]) -> u32
 /// Closes the volume up, by at most `quota` sectors moved. If it is carried out and the report has four bytes, they get why it ended (1
 /// settled, 2 quota, 3 segments), zero, and the number of sectors moved; a report of another length is not written. Refuses $6F for desk
 /// bytes that stand for no desk; then as the call does. The desk bytes stay.
-#[unsafe(no_mangle)]
-pub extern "C" fn twynarvel_compact(
-    image: &mut [u8],
-    desk: &[u8],
-    quota: u32,
-    report: &mut [u8],
-) -> u32
+pub fn twynarvel_compact(image: &mut [u8], desk: &[u8], quota: u32, report: &mut [u8]) -> u32
     ensures { (served result image.new desk.now ≡ serve (compact quota) image.old desk.now)
         × (report.new ≡ report_after quota image.old desk.now report.old) }
 {
@@ -96,8 +86,7 @@ pub extern "C" fn twynarvel_compact(
 }
 
 /// Makes a file with this read-protect code. Refuses $6F for desk bytes that stand for no desk; then as the call does. The desk bytes stay.
-#[unsafe(no_mangle)]
-pub extern "C" fn twynarvel_allocate(
+pub fn twynarvel_allocate(
     image: &mut [u8],
     desk: &[u8],
     caller: u32,
@@ -121,8 +110,7 @@ pub extern "C" fn twynarvel_allocate(
 
 /// Gives a free LUN to a file; `at_end` is 0 for its start, and any other number for its end. The LUN keeps the read-protect code
 /// offered. Refuses $6F for desk bytes that stand for no desk; then as the call does.
-#[unsafe(no_mangle)]
-pub extern "C" fn twynarvel_assign(
+pub fn twynarvel_assign(
     image: &[u8],
     desk: &mut [u8],
     caller: u32,
@@ -145,8 +133,7 @@ pub extern "C" fn twynarvel_assign(
 }
 
 /// Frees a LUN. Refuses $6F for desk bytes that stand for no desk; then as the call does.
-#[unsafe(no_mangle)]
-pub extern "C" fn twynarvel_close(image: &[u8], desk: &mut [u8], caller: u32, lun: u32) -> u32
+pub fn twynarvel_close(image: &[u8], desk: &mut [u8], caller: u32, lun: u32) -> u32
     ensures { served result image.now desk.new
         ≡ serve (close caller lun) image.now desk.old }
 {
@@ -158,8 +145,7 @@ pub extern "C" fn twynarvel_close(image: &[u8], desk: &mut [u8], caller: u32, lu
 }
 
 /// Deletes a file. Refuses $6F for desk bytes that stand for no desk; then as the call does. The desk bytes stay.
-#[unsafe(no_mangle)]
-pub extern "C" fn twynarvel_delete(image: &mut [u8], desk: &[u8], caller: u32, desc: &[u8]) -> u32
+pub fn twynarvel_delete(image: &mut [u8], desk: &[u8], caller: u32, desc: &[u8]) -> u32
     ensures { served result image.new desk.now
         ≡ serve (delete caller desc.now) image.old desk.now }
 {

@@ -1,6 +1,5 @@
 // The report of a compaction: four bytes that its caller lends.
-ghost use Rattle.std.specs.Prelude.{◌≡◌, ◌<◌, eqb, length};
-ghost use Rattle.lists.specs.Lists.{if◌then◌else◌};
+ghost use Rattle.std.specs.Prelude.{if◌then◌else◌, ◌≡◌, ◌<◌, eqb, length};
 ghost use Rattle.desk.specs.declared.Answer.TheVariants.{Done};
 ghost use Rattle.front.specs.Front.{report_size, ending_number, report_bytes, reported};
 ghost use Rattle.front.specs.Code.Tallies.{tallied};

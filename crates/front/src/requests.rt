@@ -15,7 +15,7 @@ use desk::{Answer, Desk, Reply};
 use work::Refusal;
 
 /// What a transfer's block asks for, beside its function and its part.
-#[derive(Drop)]
+#[derive(Clone, Copy)]
 pub struct Order {
     pub lun: u32,
     pub sel: u32,

@@ -1,6 +1,5 @@
 // Check's verdict as one number.
-ghost use Rattle.std.specs.Prelude.{◌≡◌, ◌+◌, ◌<◌};
-ghost use Rattle.lists.specs.Lists.{if◌then◌else◌};
+ghost use Rattle.std.specs.Prelude.{if◌then◌else◌, ◌≡◌, ◌+◌, ◌<◌};
 ghost use Rattle.desk.specs.declared.Answer.TheVariants.{Done};
 ghost use Rattle.front.specs.Front.{sound_bit, verdict};
 

@@ -1,4 +1,5 @@
 -- Allocate keeps a volume sound: a new entry in an unused slot, and the free sectors that it takes, zero-filled and marked.
+use Rattle.std.specs.Prelude.{if◌then◌else◌}
 use mathlib.Core.Path.{◌≡◌, ap, sym, ◌∙◌}
 use mathlib.Core.Logic.{◌≢◌}
 use mathlib.Core.Bool.{true, false, not}
@@ -9,7 +10,7 @@ use lib.ListN.{length, set}
 use lib.Dec.{eqb, leb, ltb}
 use borrow.Author.Tests.{le-leb, lt-ltb, eq-eqb}
 use Rattle.numbers.specs.Numbers.{record_limit}
-use Rattle.lists.specs.Lists.{◌and◌, ◌or◌, if◌then◌else◌, range, all, flat, distinct}
+use Rattle.lists.specs.Lists.{◌and◌, ◌or◌, range, all, flat, distinct}
 use Rattle.lists.specs.Parts.{part, put, sector, blanks, sectors}
 use Rattle.lists.proofs.Tests.{both_true, or_first, or_second}
 use Rattle.lists.proofs.Lists.{all_ext}

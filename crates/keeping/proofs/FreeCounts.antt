@@ -1,4 +1,5 @@
 -- How many sectors a file owns and an append needs, and how many are free after a format and after an append.
+use Rattle.std.specs.Prelude.{if◌then◌else◌}
 use mathlib.Core.Path.{◌≡◌, refl, ap, ◌∙◌}
 use mathlib.Core.Bool.{Bool, true, false}
 use mathlib.Core.List.{List, ◌++◌}
@@ -7,7 +8,6 @@ use native.Mathlib.Omega.{arith}
 use lib.ListN.{length, length-append}
 use lib.Dec.{eqb}
 use Rattle.numbers.specs.Numbers.{most_segments}
-use Rattle.lists.specs.Lists.{if◌then◌else◌}
 use Rattle.lists.specs.Parts.{bytes2, blanks, in_sectors, sectors}
 use Rattle.lists.proofs.Puts.{length-blanks}
 use Rattle.lists.proofs.Ranges.{length-range}

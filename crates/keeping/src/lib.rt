@@ -1,1 +1,2 @@
 // No function: what each change of a volume keeps. Laws that only `promises` cites.
+#![tactic(auto)]

@@ -1,5 +1,6 @@
 -- A list of numbers without repeats, one of which is replaced by a number that it lacks: what is in it, that none stands twice, and the same in
 -- the middle of a longer list.
+use Rattle.std.specs.Prelude.{if◌then◌else◌}
 use mathlib.Core.Path.{◌≡◌, refl, ap, sym, ◌∙◌}
 use mathlib.Core.Bool.{Bool, true, false, not, true≢false}
 use mathlib.Core.List.{List, [], ◌∷◌, ◌++◌}
@@ -10,7 +11,7 @@ use lib.Dec.{eqb}
 use lib.ListN.{length, get_or, set, get_or-append}
 use lib.Seq.{set-append_left, get_or-append-add}
 use borrow.Author.Tests.{ne_eqb, eqb-true, eqb-false, not-true}
-use Rattle.lists.specs.Lists.{if◌then◌else◌, ◌or◌, flat, among, distinct}
+use Rattle.lists.specs.Lists.{◌or◌, flat, among, distinct}
 use Rattle.lists.proofs.Members.{among_at}
 use Rattle.lists.proofs.Tests.{and_left, and_right, both_true, or_left, or_right, not_both}
 

@@ -1,11 +1,6 @@
 -- Plain walks over lists: both, either, pieces, ranges, searches and tests. Defines no heading of RULES; the rules are said with them.
 use Rattle.std.specs.Prelude.{Bool, true, false, not, List, [], ◌∷◌, ◌++◌, ℕ, zero, suc, ◌+◌, take, drop, eqb}
 
-infix 5 if◌then◌else◌
-abbrev pub if◌then◌else◌ : {A : Type 0} → Bool → A → A → A
-if true then x else y = x
-if false then x else y = y
-
 unfoldable pub ◌or◌ : Bool → Bool → Bool
 true or b = true
 false or b = b

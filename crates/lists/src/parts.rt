@@ -95,7 +95,7 @@ pub fn copy_in(part: &mut [u8], src: &[u8])
     requires { length src.now ≤ length part.old }
     ensures { part.new ≡ over src.now part.old }
 {
-    bytes::copy(src, part);
+    part[..src.len()].copy_from_slice(src);
 }
 
 // Sector s, as a part of the image.

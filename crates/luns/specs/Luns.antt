@@ -1,8 +1,8 @@
 -- Logical units, the places that selectors name, and whether sixteen fit a volume.
 -- Defines RULES, Logical units; Places and selectors; Fitting.
-use Rattle.std.specs.Prelude.{false, Bool, not, true, List, [], ◌∷◌, ℕ, ◌+◌, ◌-◌, eqb, ltb, leb, length}
+use Rattle.std.specs.Prelude.{if◌then◌else◌, false, Bool, not, true, List, [], ◌∷◌, ℕ, ◌+◌, ◌-◌, eqb, ltb, leb, length}
 use Rattle.numbers.specs.Numbers.{most_moved, last_user, lun_count}
-use Rattle.lists.specs.Lists.{if◌then◌else◌, ◌and◌, ◌or◌, all, some}
+use Rattle.lists.specs.Lists.{◌and◌, ◌or◌, all, some}
 use Rattle.volume.specs.Directory.{contiguous, entry_at, unused, owner}
 use Rattle.files.specs.Files.{extent}
 use Rattle.files.specs.Rights.{has_right, may_read}

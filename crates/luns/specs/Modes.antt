@@ -1,6 +1,6 @@
 -- Modes: what each reads, writes and excludes, and which two stand beside each other. Defines RULES, Modes.
-use Rattle.std.specs.Prelude.{Bool, true, false, not, ℕ, eqb}
-use Rattle.lists.specs.Lists.{if◌then◌else◌, ◌and◌, ◌or◌}
+use Rattle.std.specs.Prelude.{if◌then◌else◌, Bool, true, false, not, ℕ, eqb}
+use Rattle.lists.specs.Lists.{◌and◌, ◌or◌}
 use Rattle.luns.specs.declared.Mode.{Mode}
 use Rattle.luns.specs.declared.Mode.TheVariants.{Pr, Er, Pw, Ew, Prpw, Prew, Erpw, Erew}
 

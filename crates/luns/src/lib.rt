@@ -1,12 +1,14 @@
 // Logical units (LUNs): modes, places, and whether sixteen of them fit a volume. Every function is proved equal to a definition of
 // specs/.
+#![tactic(auto)]
+
 pub mod fits;
 pub mod holding;
 pub mod modes;
 pub mod places;
 
 /// The access permissions, by their house numbers 0 to 7: P is public, E exclusive.
-#[derive(Drop)]
+#[derive(Clone, Copy)]
 pub enum Mode {
     Pr,
     Er,
@@ -19,14 +21,14 @@ pub enum Mode {
 }
 
 /// Where a LUN stands in its file: nowhere yet, or at record (or sector) i with n of them moved.
-#[derive(Drop)]
+#[derive(Clone, Copy)]
 pub enum Place {
     Fresh,
     At { i: u32, n: u32 },
 }
 
 /// A logical unit. It keeps the read-protect code that was offered for its file. What a free one holds besides its flag is not read.
-#[derive(Drop)]
+#[derive(Clone, Copy)]
 pub struct Lun {
     pub held: bool,
     pub user: u32,

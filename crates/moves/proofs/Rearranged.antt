@@ -1,5 +1,6 @@
 -- A volume whose sequential files' sectors moved: the same directory, files with the bytes they had, as many free sectors. It holds of one move,
 -- and of any number of them.
+use Rattle.std.specs.Prelude.{if◌then◌else◌}
 use mathlib.Core.Path.{◌≡◌, refl, ap, sym, ◌∙◌}
 use mathlib.Core.Bool.{Bool, true, false, true≢false}
 use mathlib.Core.List.{List, [], ◌∷◌, ◌++◌}
@@ -8,7 +9,7 @@ use native.Mathlib.Decide.{ℕ_discrete}
 use lib.Dec.{eqb}
 use lib.ListN.{length}
 use Rattle.numbers.specs.Numbers.{most_segments}
-use Rattle.lists.specs.Lists.{if◌then◌else◌, among, range}
+use Rattle.lists.specs.Lists.{among, range}
 use Rattle.lists.specs.Parts.{sector, sectors}
 use Rattle.lists.proofs.AreBytes.{Bytes}
 use Rattle.volume.specs.Volume.{dirs, sat_at, sat, system, layout_of}

@@ -1,5 +1,6 @@
 -- One sector moved keeps a volume sound: all owners are those before with one replaced, and the SAT is theirs. As many sectors are free, and
 -- bytes stay bytes.
+use Rattle.std.specs.Prelude.{if◌then◌else◌}
 use mathlib.Core.Path.{◌≡◌, refl, ap, sym, ◌∙◌}
 use mathlib.Core.Bool.{Bool, true, false, not, true≢false}
 use mathlib.Core.List.{List, [], ◌∷◌, ◌++◌}
@@ -9,7 +10,7 @@ use lib.Dec.{eqb, leb, ltb}
 use lib.ListN.{length, get_or, set, length-set, length-append}
 use borrow.Author.Tests.{lt-ltb, ltb-true, lt-leb, ne_eqb, eqb-true}
 use Rattle.numbers.specs.Numbers.{most_segments}
-use Rattle.lists.specs.Lists.{if◌then◌else◌, ◌and◌, ◌or◌, all, flat, among, distinct, range}
+use Rattle.lists.specs.Lists.{◌and◌, ◌or◌, all, flat, among, distinct, range}
 use Rattle.lists.specs.Parts.{sector, sectors}
 use Rattle.lists.proofs.AreBytes.{Bytes}
 use Rattle.lists.proofs.ByteLists.{Bytes-nil, Bytes-sector, Bytes-put_sector}

@@ -1,7 +1,6 @@
 // A sector of a file moved: the data, the marks and the access block.
-ghost use Rattle.std.specs.Prelude.{◌≡◌, ◌+◌, ◌*◌, ◌≤◌, ◌<◌, length, leb};
+ghost use Rattle.std.specs.Prelude.{if◌then◌else◌, ◌≡◌, ◌+◌, ◌*◌, ◌≤◌, ◌<◌, length, leb};
 ghost use Rattle.numbers.specs.Numbers.{most_sectors, most_segments};
-ghost use Rattle.lists.specs.Lists.{if◌then◌else◌};
 ghost use Rattle.lists.specs.Parts.{sector, put_sector};
 ghost use Rattle.volume.specs.Directory.{entry_at};
 ghost use Rattle.volume.specs.Sat.{with_bit};

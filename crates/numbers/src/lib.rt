@@ -1,4 +1,5 @@
 // The house numbers as the code has them; `specs/Numbers` has the same as the definitions have them.
+#![tactic(auto)]
 
 /// Sectors of a volume: from this many ..
 pub const FEWEST_SECTORS: usize = 16;

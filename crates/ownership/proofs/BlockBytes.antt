@@ -1,4 +1,5 @@
 -- An access block whose numbers fit their words is bytes, and so are its pairs with sectors added.
+use Rattle.std.specs.Prelude.{if◌then◌else◌}
 use mathlib.Core.List.{List, [], ◌∷◌, ◌++◌}
 use mathlib.Core.Path.{◌≡◌}
 use mathlib.Core.Bool.{true, Bool, false}
@@ -9,7 +10,7 @@ use lib.Dec.{eqb, ltb}
 use borrow.Author.Tests.{leb-true, ltb-true}
 use Rattle.numbers.specs.Numbers.{most_sectors}
 use Rattle.lists.specs.Parts.{bytes2}
-use Rattle.lists.specs.Lists.{flat, pieces, if◌then◌else◌, all}
+use Rattle.lists.specs.Lists.{flat, pieces, all}
 use Rattle.lists.proofs.AreBytes.{Bytes}
 use Rattle.lists.proofs.ByteLists.{Bytes-append, Bytes-bytes2, Bytes-nil, Bytes-take, Bytes-drop, Bytes-filled}
 use Rattle.lists.proofs.Tests.{and_left, and_right}

@@ -1,5 +1,6 @@
 -- What claims mean: a list of sectors is claimed where none of them is marked and none stands in it twice. So a run is claimed where none of it is
 -- marked; and over the fresh table, sectors below t are claimed where none has two owners, and leave the table of `sat_of`.
+use Rattle.std.specs.Prelude.{if◌then◌else◌}
 use mathlib.Core.Bool.{Bool, true, false, not}
 use mathlib.Core.Logic.{inr}
 use mathlib.Core.List.{List, [], ◌∷◌, append-nil}
@@ -11,7 +12,7 @@ use lib.Dec.{ltb, eqb}
 use lib.ListN.{length, replicate}
 use borrow.Author.Tests.{ne_eqb, eq-eqb, ltb-true, lt-ltb, le-leb, lt-leb}
 use Rattle.numbers.specs.Numbers.{most_sectors}
-use Rattle.lists.specs.Lists.{all, ◌and◌, ◌or◌, among, distinct, if◌then◌else◌, range}
+use Rattle.lists.specs.Lists.{all, ◌and◌, ◌or◌, among, distinct, range}
 use Rattle.lists.proofs.AreBytes.{Bytes}
 use Rattle.lists.proofs.Bools.{and-false, and-true}
 use Rattle.lists.proofs.Keeps.{range_out}

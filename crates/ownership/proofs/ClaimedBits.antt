@@ -1,5 +1,6 @@
 -- Sectors of one byte claimed at once, as the code does it: their bits are tested by two shifts, and marked by one sum. On the byte alone this
 -- is one computed test over every byte, place and number; the table has the rest.
+use Rattle.std.specs.Prelude.{if◌then◌else◌}
 use mathlib.Core.Path.{◌≡◌, refl, sym, ap, ◌∙◌}
 use mathlib.Core.Bool.{Bool, true, false, not, false≢true}
 use mathlib.Core.List.{List}
@@ -9,7 +10,7 @@ use lib.Dec.{eqb, ltb, leb}
 use lib.ListN.{length, set, length-set}
 use lib.Seq.{get_or-set_same, set-get_or, set-set}
 use borrow.Author.Tests.{eqb-true, ltb-true, leb-true, eq-eqb, ne_eqb, not-true}
-use Rattle.lists.specs.Lists.{◌and◌, all, range, if◌then◌else◌}
+use Rattle.lists.specs.Lists.{◌and◌, all, range}
 use Rattle.lists.specs.Parts.{byte}
 use Rattle.lists.proofs.AreBytes.{Bytes}
 use Rattle.lists.proofs.Tests.{and_left, and_right}

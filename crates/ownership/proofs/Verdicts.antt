@@ -1,11 +1,12 @@
 -- What a verdict says of the volume.
+use Rattle.std.specs.Prelude.{if◌then◌else◌}
 use mathlib.Core.Path.{◌≡◌, refl}
 use mathlib.Core.Bool.{true, false, Bool}
 use mathlib.Core.List.{List}
 use Prim.Native.Nat.{ℕ}
 use native.Mathlib.Omega.{arith}
 use lib.ListN.{length}
-use Rattle.lists.specs.Lists.{if◌then◌else◌, ◌and◌}
+use Rattle.lists.specs.Lists.{◌and◌}
 use Rattle.lists.proofs.Tests.{and_left, and_right, both_true}
 use Rattle.volume.specs.Directory.{sound2}
 use Rattle.volume.specs.Code.Located.{Located}

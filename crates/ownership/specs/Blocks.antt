@@ -1,8 +1,8 @@
 -- Access blocks, and point 3 of soundness but for the stream's tail. Defines RULES, Access blocks; Soundness (point 3).
-use Rattle.std.specs.Prelude.{List, [], ◌∷◌, ◌++◌, map, Bool, true, ℕ, ◌+◌, ◌*◌, drop, length, eqb, leb, ltb}
+use Rattle.std.specs.Prelude.{if◌then◌else◌, List, [], ◌∷◌, ◌++◌, map, Bool, true, ℕ, ◌+◌, ◌*◌, drop, length, eqb, leb, ltb}
 use Rattle.numbers.specs.Numbers.{most_segments}
 use Rattle.lists.specs.Parts.{sector, word, long, bytes2, bytes4, filled, in_sectors, zeros, sectors}
-use Rattle.lists.specs.Lists.{pieces, range, flat, if◌then◌else◌, ◌and◌, all, sum}
+use Rattle.lists.specs.Lists.{pieces, range, flat, ◌and◌, all, sum}
 use Rattle.volume.specs.Directory.{start, unused, contiguous, size, entries}
 
 unfoldable pub block : List ℕ → List ℕ → List ℕ

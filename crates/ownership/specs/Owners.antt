@@ -1,6 +1,6 @@
 -- Who owns which sector, the SAT's bits, and point 5 of soundness. Defines RULES, Owners of sectors; Soundness (point 5).
-use Rattle.std.specs.Prelude.{List, [], ◌∷◌, ◌++◌, Bool, ℕ}
-use Rattle.lists.specs.Lists.{if◌then◌else◌, range, flat, ◌and◌, distinct, same}
+use Rattle.std.specs.Prelude.{if◌then◌else◌, List, [], ◌∷◌, ◌++◌, Bool, ℕ}
+use Rattle.lists.specs.Lists.{range, flat, ◌and◌, distinct, same}
 use Rattle.lists.specs.Parts.{sectors}
 use Rattle.volume.specs.Directory.{contiguous, start, size, unused, entries}
 use Rattle.volume.specs.Volume.{system, sat}

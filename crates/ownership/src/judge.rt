@@ -1,7 +1,6 @@
 // Any bytes judged: points 1, 2, 3 (but for the streams' tails) and 5 of soundness, each once.
-ghost use Rattle.std.specs.Prelude.{◌≡◌, ◌*◌, ◌≤◌, length};
+ghost use Rattle.std.specs.Prelude.{if◌then◌else◌, ◌≡◌, ◌*◌, ◌≤◌, length};
 ghost use Rattle.numbers.specs.Numbers.{most_dirs};
-ghost use Rattle.lists.specs.Lists.{if◌then◌else◌};
 ghost use Rattle.lists.specs.Parts.{over};
 ghost use Rattle.volume.specs.Volume.{sound1};
 ghost use Rattle.volume.specs.Code.Located.{Located};
@@ -15,7 +14,7 @@ use volume::locate::{Layout, Where, locate};
 use volume::used::list_used;
 
 /// A volume that is sound but for its streams, where things are on it and how many slots are in use; or not.
-#[derive(Drop)]
+#[derive(Clone, Copy)]
 pub enum Judged {
     Sound { p: Layout, files: usize },
     Unsound,

@@ -166,7 +166,7 @@ pub fn free_sectors(img: &[u8], p: Layout) -> usize
 }
 
 /// What a slot of the directory holds.
-#[derive(Drop)]
+#[derive(Clone, Copy)]
 pub enum Held {
     Nothing,
     Run { start: usize, size: usize },

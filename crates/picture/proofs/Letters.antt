@@ -1,4 +1,5 @@
 -- The letter of a sector, as the code finds it: by the layout, the SAT and the table of holders.
+use Rattle.std.specs.Prelude.{if◌then◌else◌}
 use mathlib.Core.Path.{◌≡◌, refl, sym, ap, ◌∙◌}
 use mathlib.Core.Logic.{inl, inr}
 use mathlib.Core.Bool.{Bool, true, false, not}
@@ -7,7 +8,7 @@ use Prim.Native.Nat.{ℕ, ◌+◌, ◌-◌, ◌*◌, ◌<◌, ◌≤◌}
 use native.Mathlib.Omega.{arith}
 use lib.Dec.{eqb, leb, ltb}
 use borrow.Author.Tests.{leb-true, leb-false, ltb-true, ltb-false}
-use Rattle.lists.specs.Lists.{if◌then◌else◌, ◌or◌, ◌and◌, range, some, among}
+use Rattle.lists.specs.Lists.{◌or◌, ◌and◌, range, some, among}
 use Rattle.lists.specs.Parts.{sector}
 use Rattle.lists.proofs.Tests.{is_false}
 use Rattle.lists.proofs.Keeps.{range_out}

@@ -1,4 +1,5 @@
 -- The picture drawn over a lent list, one sector after the other; and what is drawn of any bytes.
+use Rattle.std.specs.Prelude.{if◌then◌else◌}
 use mathlib.Core.Path.{◌≡◌, refl, ◌∙◌}
 use mathlib.Core.Bool.{true, false}
 use mathlib.Core.List.{List, [], ◌∷◌, ◌++◌, map, map-append}
@@ -6,7 +7,7 @@ use Prim.Native.Nat.{ℕ, ◌+◌, ◌<◌}
 use native.Mathlib.Omega.{arith}
 use native.Mathlib.Nat.{zero-add}
 use lib.ListN.{length, set, length-map}
-use Rattle.lists.specs.Lists.{if◌then◌else◌, range}
+use Rattle.lists.specs.Lists.{range}
 use Rattle.lists.specs.Parts.{sectors, over, put}
 use Rattle.lists.proofs.Fronts.{Placed, Placed-none, Placed-next}
 use Rattle.lists.proofs.Ranges.{length-range, range_snoc}

@@ -1,6 +1,6 @@
 -- A volume drawn, a letter a sector. Defines no heading of RULES; docs/GUIDE.md, map.
-use Rattle.std.specs.Prelude.{Bool, not, List, map, ℕ, ◌+◌, ◌-◌, eqb, ltb}
-use Rattle.lists.specs.Lists.{if◌then◌else◌, ◌or◌, ◌and◌, range, some, among}
+use Rattle.std.specs.Prelude.{if◌then◌else◌, Bool, not, List, map, ℕ, ◌+◌, ◌-◌, eqb, ltb}
+use Rattle.lists.specs.Lists.{◌or◌, ◌and◌, range, some, among}
 use Rattle.lists.specs.Parts.{sectors, over}
 use Rattle.volume.specs.Volume.{sat, system}
 use Rattle.volume.specs.Directory.{entries, unused, contiguous, start}

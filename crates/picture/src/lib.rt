@@ -1,7 +1,9 @@
 // A volume drawn as text, a letter a sector. Every function is proved equal to a definition of specs/.
-ghost use Rattle.std.specs.Prelude.{◌≡◌, ◌<◌, ◌≤◌, length};
+#![tactic(auto)]
+
+ghost use Rattle.std.specs.Prelude.{if◌then◌else◌, ◌≡◌, ◌<◌, ◌≤◌, length};
 ghost use Rattle.numbers.specs.Numbers.{most_sectors};
-ghost use Rattle.lists.specs.Lists.{if◌then◌else◌, some, among};
+ghost use Rattle.lists.specs.Lists.{some, among};
 ghost use Rattle.lists.specs.Parts.{sectors, over};
 ghost use Rattle.volume.specs.Volume.{system_of};
 ghost use Rattle.volume.specs.Directory.{entries};

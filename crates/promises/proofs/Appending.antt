@@ -98,8 +98,8 @@ module _ (s : State) (lun i : ℕ) (ss : List ℕ) (A : Appending s lun i ss) wh
     entry = one_more e;
     changed = appended-Changed v H.facts_of k H.slot_in H.lun_ok.used A.sequential ss A.fine A.enough A.few;
     same = append_same;
-    is_sound = appended-sound v H.facts_of k H.slot_in H.lun_ok.used A.sequential ss A.fine A.enough A.few H.Counts-of;
-    are_bytes = λ bi b. Bytes-appended v H.facts_of k H.slot_in H.lun_ok.used A.sequential ss A.fine A.enough A.few bi b H.Counts-of;
+    is_sound = appended-sound v H.facts_of k H.slot_in H.lun_ok.used A.sequential ss A.fine A.enough A.few H.counts_of;
+    are_bytes = λ bi b. Bytes-appended v H.facts_of k H.slot_in H.lun_ok.used A.sequential ss A.fine A.enough A.few bi b H.counts_of;
     as_long = omega (arith, extent_after);
     place = place_one v' e i A.sequential append_there;
     elsewhere = λ u l h.

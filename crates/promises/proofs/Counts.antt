@@ -1,4 +1,5 @@
 -- The free sectors after each call.
+use Rattle.std.specs.Prelude.{if◌then◌else◌}
 use mathlib.Core.Path.{◌≡◌, refl, ap, sym, ◌∙◌}
 use mathlib.Core.Bool.{true, false, Bool}
 use mathlib.Core.List.{List}
@@ -7,7 +8,7 @@ use native.Mathlib.Omega.{arith}
 use lib.ListN.{length}
 use Rattle.numbers.specs.Numbers.{record_limit, most_new}
 use Rattle.lists.specs.Parts.{blanks, in_sectors}
-use Rattle.lists.specs.Lists.{index, if◌then◌else◌}
+use Rattle.lists.specs.Lists.{index}
 use Rattle.lists.proofs.Tests.{zeros-blanks}
 use Rattle.lists.proofs.Ranges.{length-range}
 use Rattle.volume.specs.Volume.{dirs}

@@ -85,7 +85,7 @@ module _ (s : State) (lun i : ℕ) (ss : List ℕ) (O : Overwriting s lun i ss) 
     entry = e;
     changed = overwritten-Changed v H.facts_of k H.slot_in H.lun_ok.used O.runs i n ss O.inside O.in_sectors.whole;
     same = alike_refl e;
-    is_sound = overwritten-sound v H.facts_of k H.slot_in H.lun_ok.used O.runs i n ss O.inside O.in_sectors.whole H.Counts-of;
+    is_sound = overwritten-sound v H.facts_of k H.slot_in H.lun_ok.used O.runs i n ss O.inside O.in_sectors.whole H.counts_of;
     are_bytes = λ bi b. Bytes-overwritten e i ss v b bi;
     as_long = omega (arith, extent_run v e O.runs, extent_run v' e O.runs);
     place = place_run v' e i n O.runs O.in_sectors.some O.in_sectors.few O.inside;

@@ -146,7 +146,7 @@ module _ (s : State) (bi : Bytes s.image) (lun : ℕ) (bs v' : List ℕ) (i n : 
       let f = grown_Fitting s.image v' (slot_held s lun) R.entry R.ws R.changed R.same R.as_long s.desk.luns H.fits_of in
       record {
         volume = record { is_sound = R.is_sound; is_bytes = R.are_bytes bi b };
-        is_fitting = fits_is v' _ (moved_Fitting v' s.desk lun (At i n) H.lun_in H.is_held_lem there f);
+        is_fitting = fits_is v' _ (moved_Fitting v' s.desk lun (At i n) H.lun_in H.is_held there f);
       }
 
   pub Preserves-rewrite : Preserves bs (Touch-units (slot_held s lun) i n) s (moved_on s lun v' i n)

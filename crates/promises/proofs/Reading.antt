@@ -1,4 +1,5 @@
 -- Read: what it hands over, where the place then is, and that it keeps everything.
+use Rattle.std.specs.Prelude.{if◌then◌else◌}
 use mathlib.Core.Path.{◌≡◌, refl, ap, ◌∙◌, sym}
 use mathlib.Core.List.{List, []}
 use mathlib.Core.Bool.{Bool, true, false}
@@ -8,7 +9,6 @@ use lib.ListN.{length, length-take, length-drop}
 use lib.Dec.{leb}
 use borrow.Author.Tests.{leb-true, leb-false, le-leb, lt-leb}
 use Rattle.lists.specs.Parts.{part, sectors}
-use Rattle.lists.specs.Lists.{if◌then◌else◌}
 use Rattle.volume.specs.Directory.{start, size, contiguous}
 use Rattle.files.specs.Changes.{sectors_at}
 use Rattle.files.specs.Files.{record_at, extent}
@@ -126,7 +126,7 @@ module _ (caller lun sel num : ℕ) (fmt : Bool) (buf : List ℕ) (s : State) (T
   unfolding after reading moving file_of
   Preserves-read bs =
       Preserves-Desk bs nothing s (after s.desk lun read_at) (λ g.
-      Good-Desk s (after s.desk lun read_at) g (moved_Fitting v s.desk lun _ H.lun_in H.is_held_lem place_after H.fits_of))
+      Good-Desk s (after s.desk lun read_at) g (moved_Fitting v s.desk lun _ H.lun_in H.is_held place_after H.fits_of))
 
   -- what it hands over
   abbrev bs : List ℕ

@@ -1,4 +1,5 @@
 -- Assign, close and rewind: the image stays, and the LUN that each puts fits.
+use Rattle.std.specs.Prelude.{if◌then◌else◌}
 use mathlib.Core.Path.{◌≡◌, refl, ap, ◌∙◌, sym}
 use mathlib.Core.Bool.{true, false, Bool, not, true≢false}
 use mathlib.Core.List.{List, ◌∷◌}
@@ -6,7 +7,7 @@ use Prim.Native.Nat.{ℕ, ◌-◌, ◌≤◌}
 use native.Mathlib.Omega.{arith}
 use lib.Dec.{leb}
 use borrow.Author.Tests.{leb-true}
-use Rattle.lists.specs.Lists.{◌and◌, if◌then◌else◌, ◌or◌}
+use Rattle.lists.specs.Lists.{◌and◌, ◌or◌}
 use Rattle.lists.proofs.Tests.{and_right, and_left}
 use Rattle.lists.proofs.Lists.{same-true}
 use Rattle.volume.specs.Names.{user_of}
@@ -60,7 +61,7 @@ Preserves-rewind bs caller lun s T =
     let H : Held s lun = Held-by s caller lun T.is_ready T.is_fine in
     Preserves-Desk bs nothing s (rewound_at s lun) (λ g.
     Good-Desk s (rewound_at s lun) g
-    (moved_Fitting s.image s.desk lun Fresh H.lun_in H.is_held_lem (fresh_exists s.image (entry_at s.image (lun_at s.desk lun).slot)) H.fits_of))
+    (moved_Fitting s.image s.desk lun Fresh H.lun_in H.is_held (fresh_exists s.image (entry_at s.image (lun_at s.desk lun).slot)) H.fits_of))
 
 -- Assign: the place that a LUN starts at exists
 last_exists : (v e : List ℕ) → 1 ≤ extent v e → place_exists v e (At (extent v e - 1) 1) ≡ true

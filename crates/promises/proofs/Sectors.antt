@@ -1,4 +1,5 @@
 -- Demand 3 of one sound volume: where logical sectors lead, and which sectors are marked.
+use Rattle.std.specs.Prelude.{if◌then◌else◌}
 use mathlib.Core.Path.{◌≡◌, refl, ap, sym, ◌∙◌}
 use mathlib.Core.Bool.{true, true≢false, Bool, false}
 use mathlib.Core.List.{List, [], ◌∷◌}
@@ -8,7 +9,7 @@ use native.Mathlib.Nat.{not-suc-le-zero, le_of_suc-le-suc}
 use native.Mathlib.Decide.{ℕ_discrete}
 use lib.ListN.{length, get_or}
 use borrow.Author.Tests.{eq-eqb, not-true}
-use Rattle.lists.specs.Lists.{among, distinct, if◌then◌else◌}
+use Rattle.lists.specs.Lists.{among, distinct}
 use Rattle.lists.specs.Parts.{sectors}
 use Rattle.lists.proofs.Tests.{or_first, or_second, and_left, and_right}
 use Rattle.volume.specs.Directory.{unused, contiguous, start, entry_at}

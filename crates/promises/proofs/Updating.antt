@@ -88,7 +88,7 @@ module _
     entry = e;
     changed = updated-Changed v H.facts_of k H.slot_in H.lun_ok.used sequential bi i ss there fine long;
     same = alike_refl e;
-    is_sound = updated-sound v H.facts_of k H.slot_in H.lun_ok.used sequential bi i ss there fine long H.Counts-of;
+    is_sound = updated-sound v H.facts_of k H.slot_in H.lun_ok.used sequential bi i ss there fine long H.counts_of;
     are_bytes = λ z. Bytes-updated v H.facts_of k H.slot_in H.lun_ok.used sequential bi i ss there fine long;
     as_long = omega (arith, extent_after);
     place = place_one v' e i sequential (omega (arith, there, extent-records v e sequential, extent_after));

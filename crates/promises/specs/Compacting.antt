@@ -1,7 +1,7 @@
 -- Closing up a volume: what one sector's move does, what a compaction does and leaves, and that no read sees it.
-use Rattle.std.specs.Prelude.{Bool, true, false, List, [], map, ◌≢◌, ◌≡◌, ℕ, ◌+◌, ◌-◌, ◌*◌, ◌≤◌, ◌<◌, eqb, length, set}
+use Rattle.std.specs.Prelude.{if◌then◌else◌, Bool, true, false, List, [], map, ◌≢◌, ◌≡◌, ℕ, ◌+◌, ◌-◌, ◌*◌, ◌≤◌, ◌<◌, eqb, length, set}
 use Rattle.numbers.specs.Numbers.{most_quota}
-use Rattle.lists.specs.Lists.{if◌then◌else◌, among, flat}
+use Rattle.lists.specs.Lists.{among, flat}
 use Rattle.lists.specs.Parts.{sector, sectors}
 use Rattle.volume.specs.Volume.{sat_at, sat, system}
 use Rattle.volume.specs.Directory.{entries, entry_at, files_in, contiguous}

@@ -1,7 +1,6 @@
 -- Hollow programs that the statements shut out, and check's count. The steps are those of RULES, Worked example.
-use Rattle.std.specs.Prelude.{◌≡◌, Bool, false, true, List, [], ℕ, ◌+◌, ◌*◌, ◌≤◌, length}
+use Rattle.std.specs.Prelude.{if◌then◌else◌, ◌≡◌, Bool, false, true, List, [], ℕ, ◌+◌, ◌*◌, ◌≤◌, length}
 use Rattle.lists.specs.Parts.{put}
-use Rattle.lists.specs.Lists.{if◌then◌else◌}
 use Rattle.volume.specs.Directory.{start, contiguous}
 use Rattle.volume.specs.Sat.{free}
 use Rattle.files.specs.Files.{extent, sound}

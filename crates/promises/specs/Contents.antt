@@ -1,6 +1,6 @@
 -- The contents of demand 2: what accepted transfers read and write, and what every other call leaves.
-use Rattle.std.specs.Prelude.{List, [], ◌∷◌, ◌++◌, ◌≡◌, Bool, true, false, ◌≢◌, ◌⊎◌, ℕ, ◌+◌, ◌-◌, ◌*◌, ◌/◌, ◌≤◌, ◌<◌, leb, length, set}
-use Rattle.lists.specs.Lists.{if◌then◌else◌, all}
+use Rattle.std.specs.Prelude.{if◌then◌else◌, List, [], ◌∷◌, ◌++◌, ◌≡◌, Bool, true, false, ◌≢◌, ◌⊎◌, ℕ, ◌+◌, ◌-◌, ◌*◌, ◌/◌, ◌≤◌, ◌<◌, leb, length, set}
+use Rattle.lists.specs.Lists.{all}
 use Rattle.lists.specs.Parts.{part, over, sector}
 use Rattle.volume.specs.Volume.{trailer}
 use Rattle.volume.specs.Directory.{contiguous, entry_at, record_count, SameButCount}

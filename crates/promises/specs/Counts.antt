@@ -1,7 +1,6 @@
 -- The free sectors after each call, in numbers.
-use Rattle.std.specs.Prelude.{Bool, List, ◌≡◌, ℕ, ◌+◌, ◌-◌, ◌%◌, ◌≤◌, eqb, length}
+use Rattle.std.specs.Prelude.{if◌then◌else◌, Bool, List, ◌≡◌, ℕ, ◌+◌, ◌-◌, ◌%◌, ◌≤◌, eqb, length}
 use Rattle.numbers.specs.Numbers.{record_limit, most_new}
-use Rattle.lists.specs.Lists.{if◌then◌else◌}
 use Rattle.lists.specs.Parts.{in_sectors}
 use Rattle.volume.specs.Directory.{contiguous, entry_at, record_length, size}
 use Rattle.volume.specs.Sat.{free}

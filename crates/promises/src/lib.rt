@@ -1,5 +1,7 @@
 // What a reader may conclude from the calls' statements. One function, which does nothing: its contract is the record of all that was
 // asked for, so that a statement without its proof fails this crate.
+#![tactic(auto)]
+
 ghost use Rattle.promises.specs.Demands.{Demands};
 
 pub fn promised()

@@ -1,4 +1,5 @@
 -- A record replaced by one as long: the stream keeps its length, and only the data bytes differ. The length of a record in the stream.
+use Rattle.std.specs.Prelude.{if◌then◌else◌}
 use mathlib.Core.List.{List, [], ◌++◌, append-nil, ◌∷◌, append_assoc}
 use mathlib.Core.Path.{◌≡◌, refl, sym, ap, ◌∙◌}
 use mathlib.Core.Bool.{true}
@@ -8,7 +9,7 @@ use lib.Dec.{eqb, eqb-suc-zero}
 use lib.ListN.{length, length-append, set, get_or, take, drop}
 use lib.Seq.{take_at, drop-append-add, drop_at, split_at, set_split}
 use Rattle.numbers.specs.Numbers.{record_limit}
-use Rattle.lists.specs.Lists.{if◌then◌else◌, flat, all}
+use Rattle.lists.specs.Lists.{flat, all}
 use Rattle.lists.specs.Parts.{bytes2, blanks, put}
 use Rattle.lists.proofs.Puts.{length-blanks}
 use Rattle.lists.proofs.AreBytes.{Bytes}

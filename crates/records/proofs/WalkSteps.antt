@@ -1,4 +1,5 @@
 -- The walks' steps and ends, as the code meets them: at a place of a mapped stream.
+use Rattle.std.specs.Prelude.{if◌then◌else◌}
 use mathlib.Core.Path.{◌≡◌, ap, sym, ◌∙◌, refl}
 use mathlib.Core.Bool.{true, false, Bool, ◌||◌}
 use mathlib.Core.List.{List, []}
@@ -12,7 +13,7 @@ use lib.Dec.{ltb, eqb}
 use borrow.Author.Tests.{eq-eqb, ne_eqb, lt-ltb, le-ltb, ltb-true, ltb-false}
 use Rattle.numbers.specs.Numbers.{record_limit}
 use Rattle.lists.specs.Parts.{word, byte, part}
-use Rattle.lists.specs.Lists.{if◌then◌else◌, ◌or◌}
+use Rattle.lists.specs.Lists.{◌or◌}
 use Rattle.lists.proofs.AreBytes.{Bytes}
 use Rattle.lists.proofs.Bools.{or_is}
 use Rattle.lists.proofs.Tests.{or_cases, or_left, or_right}

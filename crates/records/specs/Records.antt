@@ -1,7 +1,7 @@
 -- Records and the stream that they make. Defines RULES, Streams and records; Soundness (point 4, of one stream).
-use Rattle.std.specs.Prelude.{Bool, false, List, ◌++◌, [], ◌∷◌, ℕ, ◌%◌, zero, suc, ◌+◌, ◌*◌, ◌/◌, length, take, eqb, leb}
+use Rattle.std.specs.Prelude.{if◌then◌else◌, Bool, false, List, ◌++◌, [], ◌∷◌, ℕ, ◌%◌, zero, suc, ◌+◌, ◌*◌, ◌/◌, length, take, eqb, leb}
 use Rattle.numbers.specs.Numbers.{record_limit}
-use Rattle.lists.specs.Lists.{◌and◌, ◌or◌, if◌then◌else◌, flat, pieces}
+use Rattle.lists.specs.Lists.{◌and◌, ◌or◌, flat, pieces}
 use Rattle.lists.specs.Parts.{bytes2, blanks, part, zeros}
 
 -- RULES, Words and numbers: a record allowed for record length L, 0 for variable ones

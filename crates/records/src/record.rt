@@ -11,21 +11,21 @@ use lists::parts::word_at;
 use numbers::RECORD_LIMIT;
 
 /// The place after a variable record.
-#[derive(Drop)]
+#[derive(Clone, Copy)]
 pub enum Step {
     Next(usize),
     Bad,
 }
 
 /// The number of whole records.
-#[derive(Drop)]
+#[derive(Clone, Copy)]
 pub enum Counted {
     Whole(usize),
     Broken,
 }
 
 /// Where a record's data lies in the stream.
-#[derive(Drop)]
+#[derive(Clone, Copy)]
 pub enum Spot {
     At { from: usize, len: usize },
     Past,

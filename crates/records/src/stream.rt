@@ -41,7 +41,7 @@ pub fn stream_byte(img: &[u8], map: &[u16], p: usize) -> usize
 }
 
 /// A byte of the stream by its place in the image, and the place of the stream up to which those after it follow it there.
-#[derive(Drop)]
+#[derive(Clone, Copy)]
 pub struct Run {
     pub at: usize,
     pub end: usize,

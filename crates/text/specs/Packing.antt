@@ -1,6 +1,6 @@
 -- Texts, and the bytes that stand for them when runs of spaces are packed. Defines RULES, Texts.
-use Rattle.std.specs.Prelude.{Bool, List, [], ◌∷◌, ◌++◌, ℕ, ◌+◌, ◌-◌, eqb, ltb, replicate}
-use Rattle.lists.specs.Lists.{if◌then◌else◌, all}
+use Rattle.std.specs.Prelude.{if◌then◌else◌, Bool, List, [], ◌∷◌, ◌++◌, ℕ, ◌+◌, ◌-◌, eqb, ltb, replicate}
+use Rattle.lists.specs.Lists.{all}
 
 -- RULES, Texts: a space is $20; a byte from $80 on stands for spaces, at most 127 of them
 abbrev pub space : ℕ

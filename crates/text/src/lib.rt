@@ -1,4 +1,6 @@
 // Texts, and the bytes that stand for them when runs of spaces are packed.
+#![tactic(auto)]
+
 pub mod packing;
 pub mod unpacking;
 

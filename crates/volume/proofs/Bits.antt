@@ -1,4 +1,5 @@
 -- The SAT's bits: what `with_bit` changes, and that the table which marks exactly the owned sectors is `sat_of`.
+use Rattle.std.specs.Prelude.{if◌then◌else◌}
 use mathlib.Core.Path.{◌≡◌, refl, ap, sym, ◌∙◌}
 use mathlib.Core.Bool.{Bool, true, false}
 use mathlib.Core.List.{List, map}
@@ -11,7 +12,7 @@ use lib.ListN.{length, get_or, length-map}
 use lib.Seq.{get_or-set_same, get_or-set_other, ext_get_or}
 use borrow.Author.Tests.{eqb-true, eq-eqb, ne_eqb}
 use Rattle.numbers.specs.Numbers.{most_sectors}
-use Rattle.lists.specs.Lists.{◌and◌, ◌or◌, all, range, if◌then◌else◌}
+use Rattle.lists.specs.Lists.{◌and◌, ◌or◌, all, range}
 use Rattle.lists.proofs.Tests.{and_left, and_right}
 use Rattle.lists.proofs.Ranges.{length-range}
 use Rattle.volume.specs.Sat.{marked, with_bit, one, packed, owns, sat_of}

@@ -1,4 +1,5 @@
 -- `with_bits`: which sectors are marked after it.
+use Rattle.std.specs.Prelude.{if◌then◌else◌}
 use mathlib.Core.Path.{◌≡◌, refl, ◌∙◌}
 use mathlib.Core.Bool.{true, Bool, false}
 use mathlib.Core.List.{List, [], ◌∷◌, ◌++◌}
@@ -10,7 +11,7 @@ use lib.ListN.{length, get_or, length-set}
 use lib.Seq.{get_or-set_same, get_or-set_other}
 use borrow.Author.Tests.{ltb-true}
 use Rattle.numbers.specs.Numbers.{most_sectors}
-use Rattle.lists.specs.Lists.{◌and◌, all, range, ◌or◌, if◌then◌else◌, among}
+use Rattle.lists.specs.Lists.{◌and◌, all, range, ◌or◌, among}
 use Rattle.lists.proofs.AreBytes.{Bytes}
 use Rattle.lists.proofs.Tests.{and_left, and_right}
 use Rattle.volume.specs.Sat.{with_bit, with_bits, marked}

@@ -1,4 +1,5 @@
 -- An entry's fields, read back.
+use Rattle.std.specs.Prelude.{if◌then◌else◌}
 use mathlib.Core.Path.{◌≡◌, refl, sym, ap, ◌∙◌}
 use mathlib.Core.Bool.{Bool, true, false}
 use mathlib.Core.List.{List, [], ◌∷◌, ◌++◌}
@@ -9,7 +10,7 @@ use lib.Seq.{get_or-append-add, get_or-take, get_or-drop, take_at}
 use lib.Dec.{eqb, leb}
 use borrow.Author.Tests.{eqb-true, le-leb}
 use Rattle.numbers.specs.Numbers.{record_limit}
-use Rattle.lists.specs.Lists.{◌and◌, if◌then◌else◌, all}
+use Rattle.lists.specs.Lists.{◌and◌, all}
 use Rattle.lists.specs.Parts.{byte, word, bytes2, part}
 use Rattle.lists.proofs.Tests.{and_left, and_right, both_true}
 use Rattle.volume.specs.Names.{descriptor, user_of}

@@ -1,4 +1,5 @@
 -- A volume laid out part by part is `formatted`: its table, its trailer, and what lies between.
+use Rattle.std.specs.Prelude.{if◌then◌else◌}
 use mathlib.Core.Path.{◌≡◌, ap, sym, ◌∙◌, refl}
 use mathlib.Core.List.{List, ◌++◌, [], ◌∷◌, append_assoc, append-nil}
 use mathlib.Core.Bool.{Bool, false, true}
@@ -13,7 +14,7 @@ use borrow.Author.Tests.{lt-ltb, ne_eqb, eq-eqb, le-leb, lt-leb}
 use borrow.Rule.Slice.PartMut.{put_mid}
 use Rattle.numbers.specs.Numbers.{fewest_sectors, most_dirs, most_sectors}
 use Rattle.lists.specs.Parts.{put, blanks, bytes2, filled, part, over}
-use Rattle.lists.specs.Lists.{range, all, among, if◌then◌else◌, ◌or◌}
+use Rattle.lists.specs.Lists.{range, all, among, ◌or◌}
 use Rattle.lists.proofs.Tests.{both_true, not_both, or_first, or_second}
 use Rattle.lists.proofs.Puts.{length-blanks}
 use Rattle.lists.proofs.Keeps.{range_out}

@@ -1,4 +1,5 @@
 -- Point 1 of soundness, as facts about the places of a volume.
+use Rattle.std.specs.Prelude.{if◌then◌else◌}
 use mathlib.Core.Path.{◌≡◌, sym, ◌∙◌, refl}
 use mathlib.Core.Bool.{true, Bool, false, true≢false}
 use mathlib.Core.List.{List}
@@ -8,7 +9,7 @@ use lib.ListN.{length, take, drop}
 use borrow.Author.Tests.{eqb-true, leb-true, ltb-true, eq-eqb, le-leb, lt-ltb}
 use Rattle.numbers.specs.Numbers.{fewest_sectors, most_dirs, most_sectors}
 use Rattle.lists.specs.Parts.{word, zeros, sectors}
-use Rattle.lists.specs.Lists.{◌and◌, if◌then◌else◌}
+use Rattle.lists.specs.Lists.{◌and◌}
 use Rattle.lists.proofs.Tests.{and_left, and_right, both_true, is_false}
 use Rattle.lists.proofs.Bools.{agree}
 use Rattle.volume.specs.Names.{volume_id}

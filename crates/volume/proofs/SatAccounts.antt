@@ -1,4 +1,5 @@
 -- Owners put in or left out: none stands twice, and the SAT's account of them.
+use Rattle.std.specs.Prelude.{if◌then◌else◌}
 use mathlib.Core.Path.{◌≡◌, ap, ◌∙◌, sym, refl}
 use mathlib.Core.Bool.{true, not, false, true≢false, Bool}
 use mathlib.Core.List.{List, [], ◌∷◌, ◌++◌}
@@ -6,7 +7,7 @@ use Prim.Native.Nat.{ℕ, ◌<◌}
 use native.Mathlib.Omega.{arith}
 use lib.Dec.{eqb, leb, ltb}
 use borrow.Author.Tests.{not-true, eq-eqb, ltb-true, lt-leb}
-use Rattle.lists.specs.Lists.{all, among, distinct, ◌or◌, if◌then◌else◌}
+use Rattle.lists.specs.Lists.{all, among, distinct, ◌or◌}
 use Rattle.lists.proofs.Tests.{and_left, and_right, both_true, not_both, or_left, or_right, is_false, or_first, or_second}
 use Rattle.lists.proofs.Lists.{among-append, all-among, all_ext}
 use Rattle.lists.proofs.JoinedLists.{middle_apart}

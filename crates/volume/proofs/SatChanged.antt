@@ -1,4 +1,5 @@
 -- A SAT that stands for some owners, with bits changed, stands for others.
+use Rattle.std.specs.Prelude.{if◌then◌else◌}
 use mathlib.Core.Bool.{Bool, true}
 use mathlib.Core.List.{List}
 use mathlib.Core.Path.{◌≡◌, ap, ◌∙◌}
@@ -8,7 +9,7 @@ use native.Mathlib.Decide.{dec_lt}
 use lib.ListN.{length, get_or-eq_default}
 use lib.Dec.{eqb}
 use Rattle.numbers.specs.Numbers.{most_sectors}
-use Rattle.lists.specs.Lists.{if◌then◌else◌, among}
+use Rattle.lists.specs.Lists.{among}
 use Rattle.lists.proofs.AreBytes.{Bytes}
 use Rattle.volume.specs.Sat.{packed, owns, sat_of, marked, with_bits}
 use Rattle.volume.proofs.Bits.{get_or-map-range, length-sat_of, marked-sat_of, sat_is, one-le}

@@ -1,8 +1,8 @@
 -- The directory's entries, their fields, and point 2 of soundness. Defines RULES, The directory; Soundness (point 2).
-use Rattle.std.specs.Prelude.{List, [], ◌∷◌, ◌++◌, Bool, not, true, ◌≡◌, ℕ, ◌*◌, ◌+◌, get_or, length, eqb, leb}
+use Rattle.std.specs.Prelude.{if◌then◌else◌, List, [], ◌∷◌, ◌++◌, Bool, not, true, ◌≡◌, ℕ, ◌*◌, ◌+◌, get_or, length, eqb, leb}
 use Rattle.numbers.specs.Numbers.{record_limit}
 use Rattle.lists.specs.Parts.{part, zeros, byte, word, long, bytes2, bytes4, put}
-use Rattle.lists.specs.Lists.{pieces, kept, ◌and◌, if◌then◌else◌, same, all, ◌or◌}
+use Rattle.lists.specs.Lists.{pieces, kept, ◌and◌, same, all, ◌or◌}
 use Rattle.volume.specs.Volume.{dir_at, dirs}
 use Rattle.volume.specs.Names.{descriptor}
 

@@ -19,7 +19,7 @@ use lists::parts::{
 use numbers::RECORD_LIMIT;
 
 /// A slot of the directory, or none.
-#[derive(Drop)]
+#[derive(Clone, Copy)]
 pub enum Found {
     At(usize),
     Nothing,

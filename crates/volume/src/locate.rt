@@ -11,7 +11,7 @@ use lists::parts::{all_zero, put_word, sector_of, word_at};
 use numbers::{FEWEST_SECTORS, MOST_DIRS, MOST_SECTORS};
 
 /// T, the SAT's sector, the first directory sector and D.
-#[derive(Drop)]
+#[derive(Clone, Copy)]
 pub struct Layout {
     pub t: usize,
     pub sat: usize,
@@ -20,7 +20,7 @@ pub struct Layout {
 }
 
 /// The layout of a volume whose point 1 holds.
-#[derive(Drop)]
+#[derive(Clone, Copy)]
 pub enum Where {
     At(Layout),
     Nowhere,

@@ -1,8 +1,8 @@
 -- Lists of rules joined: the parts that passed drop off, and a part that refused settles the whole.
+use Rattle.std.specs.Prelude.{if◌then◌else◌}
 use mathlib.Core.Path.{◌≡◌, refl, ap}
 use mathlib.Core.Bool.{Bool, true, false}
 use mathlib.Core.List.{List, [], ◌∷◌, ◌++◌}
-use Rattle.lists.specs.Lists.{if◌then◌else◌}
 use Rattle.work.specs.declared.Refusal.{Refusal}
 use Rattle.work.specs.Refusals.{Rule, ruled}
 

@@ -1,4 +1,5 @@
 -- What a search of the directory found.
+use Rattle.std.specs.Prelude.{if◌then◌else◌}
 use mathlib.Core.Path.{◌≡◌, refl}
 use mathlib.Core.Bool.{Bool, true, false}
 use mathlib.Core.List.{List}
@@ -6,7 +7,7 @@ use Prim.Native.Nat.{ℕ, ◌*◌, ◌≤◌, ◌<◌}
 use native.Mathlib.Omega.{arith}
 use lib.Dec.{ltb}
 use borrow.Author.Tests.{ltb-true, ltb-false}
-use Rattle.lists.specs.Lists.{if◌then◌else◌, some, index}
+use Rattle.lists.specs.Lists.{some, index}
 use Rattle.lists.proofs.IndexFound.{index-some, some-index}
 use Rattle.lists.proofs.Tests.{is_false}
 use Rattle.volume.specs.declared.directory.Found.TheVariants.{At, Nothing}

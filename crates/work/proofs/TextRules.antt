@@ -1,4 +1,5 @@
 -- Which transfers are of text, and what that makes of the bytes that are sent and handed over.
+use Rattle.std.specs.Prelude.{if◌then◌else◌}
 use mathlib.Core.Path.{◌≡◌, refl, sym, ◌∙◌}
 use mathlib.Core.Bool.{Bool, true, false, not, ◌&&◌}
 use mathlib.Core.List.{List}
@@ -8,7 +9,7 @@ use lib.ListN.{length}
 use lib.Dec.{eqb, leb}
 use borrow.Author.Tests.{eqb-true, not-true, not-false, leb-true, le-leb}
 use Rattle.numbers.specs.Numbers.{record_limit}
-use Rattle.lists.specs.Lists.{if◌then◌else◌, ◌and◌, ◌or◌}
+use Rattle.lists.specs.Lists.{◌and◌, ◌or◌}
 use Rattle.lists.proofs.Bools.{and_is, and-true, or-false}
 use Rattle.lists.proofs.Tests.{and_left, and_right, both_true}
 use Rattle.lists.proofs.AreBytes.{Bytes}

@@ -1,4 +1,5 @@
 -- Update, by what came of replacing the record.
+use Rattle.std.specs.Prelude.{if◌then◌else◌}
 use mathlib.Core.Path.{◌≡◌, refl}
 use mathlib.Core.Bool.{Bool, true, false}
 use mathlib.Core.List.{List}
@@ -7,7 +8,7 @@ use native.Mathlib.Omega.{arith}
 use lib.ListN.{length}
 use lib.Dec.{eqb, ltb}
 use borrow.Author.Tests.{ltb-true, le-leb, lt-leb, ltb-false}
-use Rattle.lists.specs.Lists.{if◌then◌else◌, ◌and◌}
+use Rattle.lists.specs.Lists.{◌and◌}
 use Rattle.text.specs.Packing.{packed}
 use Rattle.volume.specs.Directory.{contiguous, record_length}
 use Rattle.records.specs.Records.{allowed}

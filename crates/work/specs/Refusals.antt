@@ -1,6 +1,5 @@
 -- Refusals: each one's number, and the form in which every call's refusals stand in order. Defines RULES, Status numbers (the numbers).
-use Rattle.std.specs.Prelude.{Bool, List, [], ◌∷◌, ℕ}
-use Rattle.lists.specs.Lists.{if◌then◌else◌}
+use Rattle.std.specs.Prelude.{if◌then◌else◌, Bool, List, [], ◌∷◌, ℕ}
 use Rattle.work.specs.declared.Refusal.{Refusal}
 use Rattle.work.specs.declared.Refusal.TheVariants.{UnknownType, BadLun, WrongCode, NoRight, InUse, NoFile, BadRequest, BadLength}
 use Rattle.work.specs.declared.Refusal.TheVariants.{PastEnd, OutOfRange, OtherLength, Exists, NoRoom, BadDescriptor, NoSegment}

@@ -1,8 +1,8 @@
 -- The transfers, as far as they speak of the volume alone. Defines RULES, Read; Write; Update; Orders of refusals (after the opening).
 -- Each is of the file with the entry e, from its record or sector i on.
-use Rattle.std.specs.Prelude.{List, [], ◌∷◌, Bool, not, ℕ, ◌/◌, ◌*◌, ◌%◌, ◌+◌, ◌-◌, eqb, ltb, leb, length}
+use Rattle.std.specs.Prelude.{if◌then◌else◌, List, [], ◌∷◌, Bool, not, ℕ, ◌/◌, ◌*◌, ◌%◌, ◌+◌, ◌-◌, eqb, ltb, leb, length}
 use Rattle.numbers.specs.Numbers.{most_moved, most_segments}
-use Rattle.lists.specs.Lists.{if◌then◌else◌, ◌or◌, ◌and◌}
+use Rattle.lists.specs.Lists.{◌or◌, ◌and◌}
 use Rattle.lists.specs.Parts.{over}
 use Rattle.volume.specs.Directory.{entry_at, contiguous, record_length, size}
 use Rattle.volume.specs.Sat.{free}

@@ -1,8 +1,8 @@
 -- Rules of format, of bring-up, of allocate and of finding a file, of the volume alone. Defines RULES, Format; Bring-up; Allocate; Orders
 -- of refusals (theirs).
-use Rattle.std.specs.Prelude.{not, Bool, List, [], ◌∷◌, ℕ, ◌*◌, length, eqb, leb, ltb}
+use Rattle.std.specs.Prelude.{if◌then◌else◌, not, Bool, List, [], ◌∷◌, ℕ, ◌*◌, length, eqb, leb, ltb}
 use Rattle.numbers.specs.Numbers.{most_sectors, record_limit}
-use Rattle.lists.specs.Lists.{◌and◌, if◌then◌else◌, index, some}
+use Rattle.lists.specs.Lists.{◌and◌, index, some}
 use Rattle.lists.specs.Parts.{sectors}
 use Rattle.volume.specs.Names.{volume_id, descriptor, user_of}
 use Rattle.volume.specs.Volume.{in_range}

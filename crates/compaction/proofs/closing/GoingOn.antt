@@ -1,13 +1,13 @@
 -- The steps one after the other: how they start, what the two searches find, each of the three ends, and one step more.
 use mathlib.Core.Path.{◌≡◌, sym, ap, ◌∙◌}
-use mathlib.Core.Bool.{Bool, true, false, not}
+use mathlib.Core.Bool.{Bool, true, false}
 use mathlib.Core.List.{List}
 use Prim.Native.Nat.{ℕ, suc, ◌+◌, ◌-◌, ◌*◌, ◌<◌, ◌≤◌}
 use native.Mathlib.Omega.{arith}
 use borrow.Author.Tests.{le-leb, lt-leb, not-true, not-false}
 use Rattle.lists.specs.Lists.{first, topmost}
 use Rattle.lists.specs.Parts.{sector, sectors}
-use Rattle.volume.specs.Volume.{dirs, sat}
+use Rattle.volume.specs.Volume.{sat}
 use Rattle.volume.specs.Sat.{is_free}
 use Rattle.volume.specs.declared.locate.Layout.{Layout}
 use Rattle.compaction.specs.declared.Ending.{Ending}

@@ -1,4 +1,5 @@
 -- A step as the code makes it: the slot from the table, the number from the access block; and the table after it.
+use Rattle.std.specs.Prelude.{if◌then◌else◌}
 use mathlib.Core.Path.{◌≡◌, refl, sym, ap, ◌∙◌}
 use mathlib.Core.Bool.{Bool, true, false, not}
 use mathlib.Core.List.{List}
@@ -9,7 +10,7 @@ use lib.Seq.{get_or-set_same, get_or-set_other}
 use lib.Dec.{eqb, leb, ltb}
 use borrow.Author.Tests.{eqb-true, eqb-false, leb-true, leb-false, le-ltb, lt-ltb}
 use Rattle.numbers.specs.Numbers.{most_segments, most_sectors}
-use Rattle.lists.specs.Lists.{if◌then◌else◌, index}
+use Rattle.lists.specs.Lists.{index}
 use Rattle.lists.specs.Parts.{sectors}
 use Rattle.volume.specs.Volume.{dirs}
 use Rattle.volume.specs.Directory.{entry_at, contiguous}

@@ -1,4 +1,5 @@
 -- The table of holders: sectors given to a slot, run by run and slot by slot, and what it then says of each.
+use Rattle.std.specs.Prelude.{if◌then◌else◌}
 use mathlib.Core.Path.{◌≡◌, refl, sym, ap, ◌∙◌}
 use mathlib.Core.Bool.{Bool, true, false, not}
 use mathlib.Core.List.{List, [], ◌∷◌, ◌++◌}
@@ -11,7 +12,7 @@ use lib.Seq.{drop-cons, drop-length, get_or-set_same, get_or-set_other}
 use lib.Dec.{eqb}
 use borrow.Author.Tests.{eqb-true, eqb-false, eq-eqb, ne_eqb}
 use Rattle.numbers.specs.Numbers.{most_sectors}
-use Rattle.lists.specs.Lists.{if◌then◌else◌, ◌or◌, range, flat, index, among}
+use Rattle.lists.specs.Lists.{◌or◌, range, flat, index, among}
 use Rattle.lists.proofs.Ranges.{range-cons, range_end}
 use Rattle.lists.proofs.IndexFound.{index_here, index_later}
 use Rattle.volume.specs.Volume.{dirs}

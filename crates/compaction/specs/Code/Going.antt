@@ -1,6 +1,6 @@
 -- What the code that closes a volume up keeps true between its steps.
-use Rattle.std.specs.Prelude.{◌≡◌, Bool, true, false, not, List, ℕ, ◌+◌, ◌-◌, ◌≤◌}
-use Rattle.lists.specs.Lists.{if◌then◌else◌, first, topmost}
+use Rattle.std.specs.Prelude.{if◌then◌else◌, ◌≡◌, Bool, true, false, not, List, ℕ, ◌+◌, ◌-◌, ◌≤◌}
+use Rattle.lists.specs.Lists.{first, topmost}
 use Rattle.volume.specs.Volume.{sat}
 use Rattle.volume.specs.Sat.{is_free}
 use Rattle.volume.specs.Code.Located.{Located}

@@ -1,10 +1,11 @@
 -- A file that is as it was has the stream, the records and the extent that it had, and its record count is as right as it was.
+use Rattle.std.specs.Prelude.{if◌then◌else◌}
 use mathlib.Core.Path.{◌≡◌, refl}
 use mathlib.Core.Bool.{Bool, true, false}
 use mathlib.Core.List.{List}
 use Prim.Native.Nat.{ℕ}
 use lib.ListN.{length}
-use Rattle.lists.specs.Lists.{if◌then◌else◌, ◌or◌}
+use Rattle.lists.specs.Lists.{◌or◌}
 use Rattle.volume.specs.Directory.{unused, contiguous, size}
 use Rattle.files.specs.Files.{stream, records, extent, records_in, count_is}
 use Rattle.files.proofs.Kept.FileSame.{Same}

@@ -5,7 +5,7 @@ use mathlib.Core.List.{List, [], ◌++◌}
 use Prim.Native.Nat.{ℕ, ◌*◌, ◌<◌}
 use native.Mathlib.Omega.{arith}
 use lib.ListN.{length}
-use Rattle.lists.specs.Lists.{all, range, same, ◌and◌, ◌or◌}
+use Rattle.lists.specs.Lists.{all, range, ◌and◌, ◌or◌}
 use Rattle.lists.specs.Parts.{sectors}
 use Rattle.lists.proofs.Alike.{all_alike, flat_alike}
 use Rattle.lists.proofs.Keeps.{Keeps}

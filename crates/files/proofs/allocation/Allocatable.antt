@@ -1,4 +1,5 @@
 -- A file that can be allocated: what allocate looks for and finds, as facts, and the numbers of the two kinds.
+use Rattle.std.specs.Prelude.{if◌then◌else◌}
 use mathlib.Core.Path.{◌≡◌, refl}
 use mathlib.Core.Bool.{true, false, Bool}
 use mathlib.Core.List.{List, []}
@@ -7,7 +8,7 @@ use native.Mathlib.Omega.{arith}
 use lib.Dec.{eqb, leb}
 use borrow.Author.Tests.{leb-true, eqb-true}
 use Rattle.numbers.specs.Numbers.{record_limit, most_sectors}
-use Rattle.lists.specs.Lists.{◌and◌, if◌then◌else◌, range, all, some, index}
+use Rattle.lists.specs.Lists.{◌and◌, range, all, some, index}
 use Rattle.lists.specs.Parts.{sectors}
 use Rattle.lists.proofs.IndexFound.{some-index, index_holds}
 use Rattle.lists.proofs.Tests.{and_left, and_right}

@@ -1,5 +1,6 @@
 -- A file with a record after its stream, whose entry is as it was: the records are the old ones and then it, the sectors the old ones and
 -- then the new, every other file is as it was, and the volume is sound but for the counts.
+use Rattle.std.specs.Prelude.{if◌then◌else◌}
 use mathlib.Core.Path.{◌≡◌, refl, ap, sym, ◌∙◌}
 use mathlib.Core.Logic.{◌≢◌}
 use mathlib.Core.Bool.{true, false, true≢false, not, Bool}
@@ -10,7 +11,7 @@ use lib.ListN.{length}
 use lib.Dec.{eqb, leb}
 use borrow.Author.Tests.{lt-ltb, eq-eqb, ne_eqb, eqb-false, not-true}
 use Rattle.numbers.specs.Numbers.{most_segments}
-use Rattle.lists.specs.Lists.{◌and◌, ◌or◌, range, among, distinct, if◌then◌else◌}
+use Rattle.lists.specs.Lists.{◌and◌, ◌or◌, range, among, distinct}
 use Rattle.lists.specs.Parts.{put_sector, blanks, filled, zeros, sectors}
 use Rattle.lists.proofs.Tests.{both_true, or_first, or_second, or_left, or_right, not_both, zeros-blanks, and_left, and_right}
 use Rattle.lists.proofs.Lists.{among-append, all-append}

@@ -1,4 +1,5 @@
 -- The verdict on one file, from what its stream is found to hold; by the rule of before there were record counts too.
+use Rattle.std.specs.Prelude.{if◌then◌else◌}
 use mathlib.Core.Path.{◌≡◌, refl, ap, ◌∙◌}
 use mathlib.Core.Bool.{Bool, true, false}
 use mathlib.Core.List.{List}
@@ -7,7 +8,7 @@ use Prim.Native.Nat.{ℕ}
 use lib.Dec.{eqb}
 use lib.ListN.{drop, length}
 use borrow.Author.Tests.{eq-eqb, ne_eqb}
-use Rattle.lists.specs.Lists.{if◌then◌else◌, ◌and◌, ◌or◌}
+use Rattle.lists.specs.Lists.{◌and◌, ◌or◌}
 use Rattle.lists.specs.Parts.{sector, zeros}
 use Rattle.lists.proofs.Bools.{and-true, and-false}
 use Rattle.lists.proofs.Tests.{not_both}

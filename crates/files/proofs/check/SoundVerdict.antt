@@ -1,10 +1,11 @@
 -- The verdict on a volume, from the verdicts on its points.
+use Rattle.std.specs.Prelude.{if◌then◌else◌}
 use mathlib.Core.Path.{◌≡◌, refl, sym, ap, ◌∙◌}
 use mathlib.Core.Bool.{true, Bool, false}
 use mathlib.Core.List.{List}
 use Prim.Native.Nat.{ℕ}
 use native.Mathlib.Omega.{arith}
-use Rattle.lists.specs.Lists.{distinct, ◌and◌, if◌then◌else◌, all}
+use Rattle.lists.specs.Lists.{distinct, ◌and◌, all}
 use Rattle.lists.proofs.Tests.{and_left}
 use Rattle.lists.proofs.Bools.{and-false, and-true, and_assoc}
 use Rattle.lists.proofs.Walks.{all_both}

@@ -1,4 +1,5 @@
 -- The loops of a bring-up: counts found slot by slot, and written slot by slot.
+use Rattle.std.specs.Prelude.{if◌then◌else◌}
 use mathlib.Core.Path.{◌≡◌, refl, ap, sym, ◌∙◌}
 use mathlib.Core.Bool.{Bool, true, false}
 use mathlib.Core.List.{List}
@@ -7,7 +8,7 @@ use native.Mathlib.Decide.{ℕ_discrete}
 use native.Mathlib.Omega.{arith}
 use lib.ListN.{length, get_or, set}
 use lib.Seq.{get_or-set_same, get_or-set_other}
-use Rattle.lists.specs.Lists.{if◌then◌else◌, ◌or◌, distinct}
+use Rattle.lists.specs.Lists.{◌or◌, distinct}
 use Rattle.lists.specs.Parts.{part, put}
 use Rattle.lists.proofs.Puts.{length-put}
 use Rattle.lists.proofs.Tests.{or_left, or_right}

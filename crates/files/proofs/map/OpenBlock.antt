@@ -15,7 +15,7 @@ use Rattle.lists.specs.Lists.{all, distinct, flat, ◌and◌}
 use Rattle.lists.proofs.LentParts.{length-sector}
 use Rattle.lists.proofs.Tests.{and_left, and_right, both_true}
 use Rattle.lists.proofs.Lists.{all_ext, all_at, distinct_tail}
-use Rattle.volume.specs.Volume.{dirs, system}
+use Rattle.volume.specs.Volume.{system}
 use Rattle.volume.specs.Directory.{entries, entry_at, unused, contiguous, start, record_length}
 use Rattle.volume.specs.Code.Located.{Located}
 use Rattle.volume.specs.declared.locate.Layout.{Layout}

@@ -1,4 +1,5 @@
 -- A record's data written to its place in the stream is the record replaced; what the walk to it told.
+use Rattle.std.specs.Prelude.{if◌then◌else◌}
 use mathlib.Core.Path.{◌≡◌, refl, sym, ap, ◌∙◌}
 use mathlib.Core.List.{List, [], ◌++◌}
 use mathlib.Core.Bool.{Bool, true, false}
@@ -7,7 +8,7 @@ use native.Mathlib.Omega.{arith}
 use lib.ListN.{length, get_or, set, take-append-drop, length-append}
 use lib.Dec.{ltb}
 use borrow.Author.Tests.{ltb-true, ltb-false, lt-ltb, le-ltb, eq-eqb, ne_eqb}
-use Rattle.lists.specs.Lists.{if◌then◌else◌, distinct, ◌and◌}
+use Rattle.lists.specs.Lists.{distinct, ◌and◌}
 use Rattle.lists.specs.Parts.{put, blanks, filled, zeros, part, sector, sectors}
 use Rattle.lists.proofs.Tests.{zeros_are}
 use Rattle.lists.proofs.Puts.{length-put}

@@ -1,4 +1,5 @@
 -- An access block extended by sectors, one after the other: its pairs, how many they are, and the sector that would follow.
+use Rattle.std.specs.Prelude.{if◌then◌else◌}
 use mathlib.Core.Path.{◌≡◌, refl, ap, ◌∙◌, sym}
 use mathlib.Core.List.{List, [], ◌∷◌, ◌++◌}
 use mathlib.Core.Bool.{true, Bool, false}
@@ -10,7 +11,6 @@ use lib.Seq.{take-suc, take-length}
 use lib.Dec.{eqb, ltb}
 use borrow.Author.Tests.{ne_eqb, eqb-true, ltb-true}
 use Rattle.numbers.specs.Numbers.{most_sectors}
-use Rattle.lists.specs.Lists.{if◌then◌else◌}
 use Rattle.lists.proofs.Lists.{all_at}
 use Rattle.lists.proofs.AreBytes.{Bytes}
 use Rattle.ownership.specs.Blocks.{extended, extended_by, seg_start, seg_length, total, stream_length, pairs, block_of}

@@ -1,4 +1,5 @@
 -- Turns of the loops over the sectors that a file takes.
+use Rattle.std.specs.Prelude.{if◌then◌else◌}
 use mathlib.Core.Path.{◌≡◌, refl, ap, sym, ◌∙◌}
 use mathlib.Core.List.{List, [], ◌∷◌}
 use Prim.Native.Nat.{ℕ, ◌+◌, ◌*◌, ◌≤◌, ◌<◌, ◌-◌, zero, suc}
@@ -8,7 +9,6 @@ use lib.ListN.{length, get_or, drop, drop_of_length-le, take}
 use lib.Seq.{drop-cons, take-length}
 use lib.Dec.{eqb}
 use Rattle.lists.specs.Parts.{put, put_sector, blanks, filled}
-use Rattle.lists.specs.Lists.{if◌then◌else◌}
 use Rattle.volume.specs.Sat.{with_bit, with_bits}
 use Rattle.records.specs.Streams.{laid}
 use Rattle.ownership.specs.Blocks.{pairs, segments, seg_start, seg_length, extended_by}

@@ -1,6 +1,6 @@
 -- What replacing a record answers, of a sequential file with the entry e.
-use Rattle.std.specs.Prelude.{Bool, List, ℕ, length, eqb, ltb}
-use Rattle.lists.specs.Lists.{◌and◌, if◌then◌else◌}
+use Rattle.std.specs.Prelude.{if◌then◌else◌, Bool, List, ℕ, length, eqb, ltb}
+use Rattle.lists.specs.Lists.{◌and◌}
 use Rattle.files.specs.Files.{records, record_at}
 use Rattle.files.specs.Changes.{updated}
 use Rattle.files.specs.declared.replace.Replaced.{Replaced}

@@ -1,6 +1,6 @@
 -- The verdicts on a file and on a volume, as the code answers them.
-use Rattle.std.specs.Prelude.{List, Bool, false, ℕ, eqb, drop}
-use Rattle.lists.specs.Lists.{if◌then◌else◌, ◌and◌, ◌or◌}
+use Rattle.std.specs.Prelude.{if◌then◌else◌, List, Bool, false, ℕ, eqb, drop}
+use Rattle.lists.specs.Lists.{◌and◌, ◌or◌}
 use Rattle.lists.specs.Parts.{sector, zeros}
 use Rattle.volume.specs.Directory.{unused, contiguous}
 use Rattle.volume.specs.Volume.{layout_of}

@@ -1,6 +1,5 @@
 -- What a transfer's block asks for, beside its function and its part.
-use Rattle.std.specs.Prelude.{List, ℕ, eqb}
-use Rattle.lists.specs.Lists.{if◌then◌else◌}
+use Rattle.std.specs.Prelude.{if◌then◌else◌, List, ℕ, eqb}
 use Rattle.desk.specs.Calls.{Call, read, write, update}
 use Rattle.front.specs.declared.requests.Order.{Order}
 use Rattle.front.specs.Blocks.{options_of, lun_in, number_in, selector_in, formatted_in}

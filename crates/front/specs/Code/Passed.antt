@@ -1,6 +1,5 @@
 -- Shapes that contracts of the front's inner functions cite: what is known of a request once some of its rules were tried.
-use Rattle.std.specs.Prelude.{not, List, [], ◌∷◌, ◌≡◌, ℕ}
-use Rattle.lists.specs.Lists.{if◌then◌else◌}
+use Rattle.std.specs.Prelude.{if◌then◌else◌, not, List, [], ◌∷◌, ◌≡◌, ℕ}
 use Rattle.lists.specs.Parts.{put}
 use Rattle.front.specs.declared.areas.Span.{Span}
 use Rattle.work.specs.declared.Refusal.TheVariants.{NotSound, BadRequest, BadLength}

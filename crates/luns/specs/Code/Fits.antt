@@ -1,7 +1,7 @@
 -- Whether a LUN fits, in the parts that the code judges one after the other; each part's place in `lun_fits` is a law of proofs/.
-use Rattle.std.specs.Prelude.{Bool, not, true, List, ℕ, ◌+◌, leb, eqb, ltb}
+use Rattle.std.specs.Prelude.{if◌then◌else◌, Bool, not, true, List, ℕ, ◌+◌, leb, eqb, ltb}
 use Rattle.numbers.specs.Numbers.{last_user, most_moved}
-use Rattle.lists.specs.Lists.{◌and◌, ◌or◌, if◌then◌else◌}
+use Rattle.lists.specs.Lists.{◌and◌, ◌or◌}
 use Rattle.volume.specs.Directory.{entry_at, unused, owner}
 use Rattle.files.specs.Rights.{has_right}
 use Rattle.luns.specs.declared.Lun.{Lun}

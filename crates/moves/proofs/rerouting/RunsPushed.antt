@@ -1,4 +1,5 @@
 -- The segments of an access block pushed into another one, one of their sectors replaced: what a push asks for, and what is told after it.
+use Rattle.std.specs.Prelude.{if◌then◌else◌}
 use mathlib.Core.Path.{◌≡◌, ap, ◌∙◌}
 use mathlib.Core.Bool.{Bool, true, false, not}
 use mathlib.Core.List.{List, ◌∷◌, ◌++◌}
@@ -10,7 +11,7 @@ use lib.Dec.{ltb}
 use lib.Seq.{set-append_left, set_out}
 use borrow.Author.Tests.{lt-ltb, le-ltb, not-true, not-false}
 use Rattle.numbers.specs.Numbers.{most_sectors}
-use Rattle.lists.specs.Lists.{range, all, flat, if◌then◌else◌}
+use Rattle.lists.specs.Lists.{range, all, flat}
 use Rattle.lists.proofs.JoinedLists.{all-set}
 use Rattle.lists.proofs.MembersReplaced.{set-append_right}
 use Rattle.lists.proofs.Ranges.{length-range, range_below}

@@ -1,7 +1,7 @@
 -- What the functions that move a sector ask for, and what they make on the way.
-use Rattle.std.specs.Prelude.{◌≡◌, true, false, List, ◌≢◌, ℕ, ◌-◌, ◌*◌, ◌<◌, ◌≤◌, length, set, ltb}
+use Rattle.std.specs.Prelude.{if◌then◌else◌, ◌≡◌, true, false, List, ◌≢◌, ℕ, ◌-◌, ◌*◌, ◌<◌, ◌≤◌, length, set, ltb}
 use Rattle.numbers.specs.Numbers.{most_sectors}
-use Rattle.lists.specs.Lists.{range, all, if◌then◌else◌}
+use Rattle.lists.specs.Lists.{range, all}
 use Rattle.lists.specs.Parts.{sectors, sector, put_sector}
 use Rattle.volume.specs.Volume.{sat}
 use Rattle.volume.specs.Directory.{entry_at, contiguous}

@@ -1,6 +1,5 @@
 -- What a slot of the directory holds, as the code that frees it has it.
-use Rattle.std.specs.Prelude.{List, ℕ}
-use Rattle.lists.specs.Lists.{if◌then◌else◌}
+use Rattle.std.specs.Prelude.{if◌then◌else◌, List, ℕ}
 use Rattle.volume.specs.Directory.{unused, contiguous, start, size}
 use Rattle.ownership.specs.declared.owners.Held.{Held}
 use Rattle.ownership.specs.declared.owners.Held.TheVariants.{Nothing, Run, Chain}

@@ -1,6 +1,6 @@
 -- What this layer judges of any bytes: soundness but for the streams, where things are, and how many slots are in use.
-use Rattle.std.specs.Prelude.{Bool, List, ℕ, length}
-use Rattle.lists.specs.Lists.{◌and◌, if◌then◌else◌}
+use Rattle.std.specs.Prelude.{if◌then◌else◌, Bool, List, ℕ, length}
+use Rattle.lists.specs.Lists.{◌and◌}
 use Rattle.volume.specs.Volume.{sound1, layout_of}
 use Rattle.volume.specs.Directory.{sound2}
 use Rattle.volume.specs.Code.Used.{used_slots}

@@ -1,4 +1,5 @@
 -- No read sees that a volume was rearranged: the same rules refuse it, and it hands over the same bytes; and so of any run of reads.
+use Rattle.std.specs.Prelude.{if◌then◌else◌}
 use mathlib.Core.Path.{◌≡◌, refl, ap, sym, ◌∙◌}
 use mathlib.Core.Bool.{Bool, true, false, not, true≢false}
 use mathlib.Core.List.{List, [], ◌∷◌, map}
@@ -8,7 +9,7 @@ use native.Mathlib.Omega.{arith}
 use lib.Dec.{leb}
 use lib.ListN.{length}
 use borrow.Author.Tests.{leb-true}
-use Rattle.lists.specs.Lists.{if◌then◌else◌, ◌and◌, ◌or◌, all}
+use Rattle.lists.specs.Lists.{◌and◌, ◌or◌, all}
 use Rattle.lists.specs.Parts.{part}
 use Rattle.lists.proofs.Tests.{and_left, and_right, is_false}
 use Rattle.lists.proofs.Alike.{all_alike}

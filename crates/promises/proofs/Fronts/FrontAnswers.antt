@@ -1,4 +1,5 @@
 -- Demand 1 through the front, and its order of refusals.
+use Rattle.std.specs.Prelude.{if◌then◌else◌}
 use mathlib.Core.Bool.{true, not}
 use mathlib.Core.List.{List, [], ◌∷◌, ◌++◌}
 use mathlib.Core.Logic.{⊎_elim, ◌≢◌}
@@ -7,7 +8,7 @@ use Prim.Native.Nat.{ℕ}
 use lib.Dec.{eqb}
 use lib.ListN.{length}
 use borrow.Author.Tests.{ne_eqb}
-use Rattle.lists.specs.Lists.{among, if◌then◌else◌}
+use Rattle.lists.specs.Lists.{among}
 use Rattle.work.specs.declared.Refusal.{Refusal}
 use Rattle.work.specs.declared.Refusal.TheVariants.{NotSound}
 use Rattle.work.specs.Refusals.{Rule, ◌if◌, code, ruled}

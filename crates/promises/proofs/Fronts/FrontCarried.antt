@@ -1,4 +1,5 @@
 -- The block and the areas after a request through the front, and what an accepted one leaves.
+use Rattle.std.specs.Prelude.{if◌then◌else◌}
 use mathlib.Core.Bool.{Bool, true, false, true≢false}
 use mathlib.Core.List.{List, [], ◌∷◌}
 use mathlib.Core.Logic.{⊎_elim, ◌≢◌, ◌⊎◌, inl, inr}
@@ -9,7 +10,6 @@ use Prim.Native.Nat.{ℕ, ◌+◌, ◌-◌, ◌<◌, ◌≤◌}
 use lib.Dec.{eqb}
 use lib.ListN.{length}
 use borrow.Author.Tests.{eq-eqb, ne_eqb}
-use Rattle.lists.specs.Lists.{if◌then◌else◌}
 use Rattle.lists.specs.Parts.{byte, long, bytes4, part, put}
 use Rattle.lists.proofs.Puts.{length-put, part-put_same, put_none}
 use Rattle.work.specs.Transfers.{moving, writing, updating}

@@ -1,4 +1,5 @@
 -- A request through the front: refused by one of the front's rules, or carried out; and what its buffer leaves in the areas.
+use Rattle.std.specs.Prelude.{if◌then◌else◌}
 use mathlib.Core.Bool.{Bool, true, false, not, true≢false}
 use mathlib.Core.List.{List, []}
 use mathlib.Core.Logic.{◌⊎◌, inl, inr, ⊎_elim, ◌≢◌}
@@ -8,7 +9,7 @@ use Prim.Native.Nat.{ℕ, ◌+◌, ◌-◌, ◌<◌, ◌≤◌}
 use lib.Dec.{eqb}
 use lib.ListN.{length}
 use borrow.Author.Tests.{eqb-true, leb-true, ltb-true, not-false}
-use Rattle.lists.specs.Lists.{if◌then◌else◌, ◌and◌, ◌or◌}
+use Rattle.lists.specs.Lists.{◌and◌, ◌or◌}
 use Rattle.lists.specs.Parts.{put}
 use Rattle.lists.proofs.Puts.{put_none, put-part}
 use Rattle.lists.proofs.LentParts.{length-part}

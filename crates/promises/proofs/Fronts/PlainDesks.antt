@@ -143,7 +143,7 @@ module _ (s : State) (caller lun : ℕ) (r : ready s ≡ true) (m : mine s.desk 
         read_right = read_alike v p same;
         place = Place-alike v (entry_of s lun) (entry_at v (slot_held s lun)) same p ∙ there;
       } in
-      plain_put s.desk lun _ h (plain_held v _ is-sound H.is_held_lem kept_code fits)
+      plain_put s.desk lun _ h (plain_held v _ is-sound H.is_held kept_code fits)
 
   plain_kept : (p : Place) → place_exists s.image (entry_of s lun) p ≡ true → PlainDesk (moved_at s lun p)
   plain_kept p there = plain_moved s.image p (ready_sound s r) (alike_refl (entry_of s lun)) there

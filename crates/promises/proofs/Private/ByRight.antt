@@ -65,7 +65,7 @@ module _
           (λ m. was_offered m.place m.earlier
           (subst (λ (c : ℕ). Offered cs t c lun (described e) (read_code e) m.place) its-user
           (subst (λ (rc : ℕ). Offered cs t u.user lun (described e) rc m.place) (eqb-true _ _ q) m.offer)))
-          (seated_run cs t g b k lun H.is_held_lem)
+          (seated_run cs t g b k lun H.is_held)
 
 -- a formatted volume is such a state
 pub none_held : (s : State) (id : List ℕ) (n : ℕ) → Accepts (format id n) s → (j : ℕ) → (lun_at (next (format id n) s).desk j).held ≡ false

@@ -1,6 +1,6 @@
 -- Runs of a stream: sectors of the map that follow each other in the image, where the stream's bytes stand side by side.
-use Rattle.std.specs.Prelude.{List, Bool, not, ℕ, ◌+◌, ◌-◌, ◌*◌, ◌/◌, ◌%◌, length, get_or, eqb, ltb}
-use Rattle.lists.specs.Lists.{first, if◌then◌else◌}
+use Rattle.std.specs.Prelude.{if◌then◌else◌, List, Bool, not, ℕ, ◌+◌, ◌-◌, ◌*◌, ◌/◌, ◌%◌, length, get_or, eqb, ltb}
+use Rattle.lists.specs.Lists.{first}
 use Rattle.records.specs.declared.stream.Run.{Run}
 
 -- the place in the image of the stream's byte p

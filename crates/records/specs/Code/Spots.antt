@@ -1,6 +1,5 @@
 -- What the walks over a stream answer: how many records it is, where a record's data lies.
-use Rattle.std.specs.Prelude.{List, [], ℕ, ◌+◌, length, get_or, ltb}
-use Rattle.lists.specs.Lists.{if◌then◌else◌}
+use Rattle.std.specs.Prelude.{if◌then◌else◌, List, [], ℕ, ◌+◌, length, get_or, ltb}
 use Rattle.records.specs.Code.Walk.{good_at, next_at, head_of, place_of}
 use Rattle.records.specs.declared.record.Step.{Step}
 use Rattle.records.specs.declared.record.Step.TheVariants.{Next, Bad}

@@ -1,7 +1,7 @@
 -- Places in a stream: where records start, and one step of the walk over variable records.
-use Rattle.std.specs.Prelude.{List, Bool, ℕ, ◌+◌, ◌%◌, eqb, leb, length, take}
+use Rattle.std.specs.Prelude.{if◌then◌else◌, List, Bool, ℕ, ◌+◌, ◌%◌, eqb, leb, length, take}
 use Rattle.numbers.specs.Numbers.{record_limit}
-use Rattle.lists.specs.Lists.{if◌then◌else◌, ◌and◌}
+use Rattle.lists.specs.Lists.{◌and◌}
 use Rattle.lists.specs.Parts.{word, part, zeros}
 use Rattle.records.specs.Records.{stream_of, records_of}
 

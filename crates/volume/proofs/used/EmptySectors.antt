@@ -9,7 +9,7 @@ use Rattle.lists.specs.Lists.{all}
 use Rattle.lists.specs.Parts.{part, zeros, sector}
 use Rattle.lists.proofs.JoinedLists.{all-append_left, all-append_right}
 use Rattle.volume.specs.Directory.{entry_at, unused}
-use Rattle.volume.specs.Volume.{dirs, dir_at}
+use Rattle.volume.specs.Volume.{dir_at}
 use Rattle.volume.specs.Code.Located.{Located}
 use Rattle.volume.specs.Code.Used.{Gap}
 use Rattle.volume.specs.declared.locate.Layout.{Layout}

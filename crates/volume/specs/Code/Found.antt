@@ -1,6 +1,5 @@
 -- What a search answers: a place below n, or nothing.
-use Rattle.std.specs.Prelude.{ℕ, ltb}
-use Rattle.lists.specs.Lists.{if◌then◌else◌}
+use Rattle.std.specs.Prelude.{if◌then◌else◌, ℕ, ltb}
 use Rattle.volume.specs.declared.directory.Found.{Found}
 use Rattle.volume.specs.declared.directory.Found.TheVariants.{At, Nothing}
 

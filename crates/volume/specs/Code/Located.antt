@@ -1,9 +1,9 @@
 -- Where a volume has its parts, as numbers that the code carries along, how they are found, and what is known of them once point 1 of
 -- soundness holds.
-use Rattle.std.specs.Prelude.{List, ◌≡◌, Bool, true, ℕ, ◌+◌, ◌-◌, ◌*◌, ◌≤◌, ◌<◌, length, drop, eqb, leb, ltb}
+use Rattle.std.specs.Prelude.{if◌then◌else◌, List, ◌≡◌, Bool, true, ℕ, ◌+◌, ◌-◌, ◌*◌, ◌≤◌, ◌<◌, length, drop, eqb, leb, ltb}
 use Rattle.numbers.specs.Numbers.{most_sectors, most_dirs, fewest_sectors}
 use Rattle.lists.specs.Parts.{sectors, word, zeros}
-use Rattle.lists.specs.Lists.{if◌then◌else◌, ◌and◌}
+use Rattle.lists.specs.Lists.{◌and◌}
 use Rattle.volume.specs.Volume.{sat_back, dir_back, dir_count, sat_at, dir_at, dirs, layout_of, sound1}
 use Rattle.volume.specs.declared.locate.Layout.{Layout}
 use Rattle.volume.specs.declared.locate.Where.{Where}

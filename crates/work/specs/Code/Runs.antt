@@ -1,8 +1,8 @@
 -- Transfers in the numbers that the code has: of a contiguous file its first sector and its size, of a sequential one how many records it
 -- has and the bytes of one.
-use Rattle.std.specs.Prelude.{List, [], ◌∷◌, Bool, ℕ, ◌+◌, ◌-◌, ◌*◌, ◌/◌, leb, ltb, length}
+use Rattle.std.specs.Prelude.{if◌then◌else◌, List, [], ◌∷◌, Bool, ℕ, ◌+◌, ◌-◌, ◌*◌, ◌/◌, leb, ltb, length}
 use Rattle.numbers.specs.Numbers.{record_limit}
-use Rattle.lists.specs.Lists.{if◌then◌else◌, ◌and◌, ◌or◌}
+use Rattle.lists.specs.Lists.{◌and◌, ◌or◌}
 use Rattle.lists.specs.Parts.{part, over}
 use Rattle.text.specs.Packing.{is_text}
 use Rattle.work.specs.Refusals.{◌if◌}

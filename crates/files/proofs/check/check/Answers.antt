@@ -1,0 +1,13 @@
+use mathlib.Core.Path.{sym, ◌∙◌}
+use Rattle.files.proofs.check.SoundVerdict.{no_layout, checked_no, sound-Layout, checked_yes}
+use Rattle.files.proofs.check.check.Goals as goal
+
+pub returns-in_default : goal.returns-in_default
+returns-in_default c = checked_no _ (no_layout _ (sym c.locate_sound-found.ensures ∙ c.in_default.is))
+
+pub free_sectors-free-requires : goal.free_sectors-free-requires
+free_sectors-free-requires c = (sound-Layout _ _ (sym c.locate_sound-found.ensures ∙ c.in-At.is)).1
+
+pub returns : goal.returns
+returns c =
+    checked_yes _ _ c.free_sectors-free.ensures (sound-Layout _ _ (sym c.locate_sound-found.ensures ∙ c.in-At.is)).0

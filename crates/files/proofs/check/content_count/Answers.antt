@@ -1,0 +1,16 @@
+use mathlib.Core.Path.{sym, ◌∙◌}
+use Rattle.files.specs.Code.Verdict.{content_of}
+use Rattle.files.proofs.check.FileTails.{tail_within}
+use Rattle.files.proofs.check.FileTails.{tail_within}
+use Rattle.files.proofs.check.content_count.Goals as goal
+
+pub walk-requires : goal.walk-requires
+walk-requires c = (c.requires.0, tail_within _ _ c.requires.0 _ c.requires.1)
+
+pub returns-then-tail_zero : goal.returns-then-tail_zero
+unfolding content_of
+returns-then-tail_zero c = c.walk.ensures ∙ rw (sym c.tail_zero.ensures ∙ c.if-tail_zero.true)
+
+pub returns : goal.returns
+unfolding content_of
+returns c = rw (sym c.tail_zero.ensures ∙ c.if-tail_zero.false)

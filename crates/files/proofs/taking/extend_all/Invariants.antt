@@ -1,0 +1,11 @@
+use mathlib.Core.Path.{◌≡◌}
+use Prim.Native.Nat.{◌≤◌, ◌-◌}
+use lib.ListN.{length, take}
+use Rattle.ownership.specs.Blocks.{total, stream_length, pairs, extended_by, block_of}
+use Rattle.files.proofs.taking.extend_all.Given as goal
+
+abbrev pub invariant-loop-k : goal.invariant-loop-k
+invariant-loop-k l = (l.k ≤ length l.ss) × (l.f ≡ block_of (extended_by (pairs l.initial.f) (take l.k l.ss)) (total l.initial.f) (stream_length l.initial.f)) × (length l.f ≡ length l.initial.f)
+
+abbrev pub decreases-loop-k : goal.decreases-loop-k
+decreases-loop-k l = length l.ss - l.k

@@ -1,0 +1,13 @@
+use mathlib.Core.Path.{◌∙◌}
+use native.Mathlib.Omega.{arith}
+use Rattle.lists.specs.Lists.{range}
+use Rattle.lists.proofs.LentParts.{wrote_by, length-sector}
+use Rattle.volume.specs.Sat.{with_bits}
+use Rattle.volume.proofs.BitsSet.{length-with_bits}
+use Rattle.volume.proofs.sat.free_in.Goals as goal
+
+pub returns : goal.returns
+returns c =
+    let a = c.args in
+    wrote_by (λ b. with_bits 0 b (range a.s a.n)) a.sat a.img.now _ c.free_run.ensures
+    (length-with_bits 0 _ _ ∙ length-sector a.sat a.img.now (omega arith))
