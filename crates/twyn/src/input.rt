@@ -4,14 +4,14 @@ use crate::script::Call;
 use crate::session::Session;
 use crate::store::Room;
 use crate::{print, script, session};
-use libc::STDIN_FILENO;
+use std::io::Read;
 
 // How many bytes of the script are read at once.
 const BLOCK: usize = 4096;
 
 /// How far a line is read: how many of its bytes are kept, whether a space would divide nothing, whether its comment has begun, and
 /// whether it is too long, so that nothing is kept of it.
-#[derive(Drop)]
+#[derive(Clone, Copy)]
 pub(crate) struct Mark {
     pub(crate) used: usize,
     pub(crate) spare: bool,
@@ -21,7 +21,7 @@ pub(crate) struct Mark {
 
 /// Standard input: a block of `got` bytes, of which `at` are read; the line that is being read, and whether it has ended; whether
 /// the input has ended, or failed.
-#[derive(Drop)]
+#[derive(Clone, Copy)]
 pub(crate) struct Reader {
     pub(crate) block: [u8; BLOCK],
     pub(crate) got: usize,
@@ -108,25 +108,33 @@ fn read_on(r: Reader) -> Reader {
     kept(&block[..n], r)
 }
 
-// Reads the next block.
-fn refilled(r: Reader) -> Reader {
-    let mut block = io::buffer();
-    let got = libc::read(STDIN_FILENO, &mut block);
+// Reads the next block. If that fails it is said.
+fn refilled(rt: &HostRuntime, r: Reader) -> Reader {
+    let mut block = [0; BLOCK];
+    let read = rt.stdin().read(&mut block);
     let mut t = r;
-    t.got = io::count(got, &block);
     t.at = 0;
     t.block = block;
-    t.failed = got < 0;
-    t.ended = got <= 0;
+    match read {
+        Ok(n) => {
+            t.got = n;
+            t.ended = n == 0;
+        }
+        Err(e) => {
+            print::fail(rt, "standard input", e);
+            t.got = 0;
+            t.ended = true;
+            t.failed = true;
+        }
+    }
     t
 }
 
-// The input has ended. If it failed, that is said, and nothing is kept of the line.
+// The input has ended. If it failed, nothing is kept of the line.
 fn closed(r: Reader) -> Reader {
     if !r.failed {
         return r;
     }
-    os::fail(b"standard input");
     let mut t = r;
     t.mark = begun();
     t
@@ -134,7 +142,7 @@ fn closed(r: Reader) -> Reader {
 
 // Reads the next line; the last may lack its end. A proved loop has to end, and nothing says that a line does: so it counts its
 // turns down.
-fn next(r: Reader) -> Reader {
+fn next(rt: &HostRuntime, r: Reader) -> Reader {
     let mut t = r;
     t.mark = begun();
     t.whole = false;
@@ -144,7 +152,7 @@ fn next(r: Reader) -> Reader {
         if t.whole {
             return t;
         }
-        t = refilled(t);
+        t = refilled(rt, t);
         if t.ended {
             return closed(t);
         }
@@ -162,7 +170,7 @@ fn call_of(r: Reader) -> Call {
 }
 
 /// The whole script, from standard input. Its turns are counted down, as those of `next` are.
-pub(crate) fn run(name: &[u8], whole: &mut Room, s: Session) -> Session {
+pub(crate) fn run(rt: &HostRuntime, name: &str, whole: &mut Room, s: Session) -> Session {
     let mut t = s;
     let mut r = untouched();
     let mut turns = u64::MAX;
@@ -171,8 +179,8 @@ pub(crate) fn run(name: &[u8], whole: &mut Room, s: Session) -> Session {
             t.broken = t.broken | r.failed;
             return t;
         }
-        r = next(r);
-        t = session::step(name, whole, t, call_of(r));
+        r = next(rt, r);
+        t = session::step(rt, name, whole, t, call_of(r));
         turns -= 1;
     }
     t

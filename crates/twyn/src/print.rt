@@ -1,14 +1,16 @@
 // A printed line, made whole and written at once; only the buffer of a read, which may be long, is written after it, in blocks. It
 // is passed by value from one function that adds to it to the next: a lent buffer would have to be followed through the proof of
 // each of them.
-ghost use Rattle.std.specs.Prelude.{◌≤◌};
-ghost use Rattle.io.specs.Counts.{IsPrefixLen};
+ghost use Rattle.std.specs.Prelude.{◌≤◌, length};
 
-use libc::STDOUT_FILENO;
+use arrayvec::ArrayString;
+use itoa::Buffer;
+use std::fmt::Write;
+use std::io;
 
 /// A line as far as it is made: words with a space after each, `used` bytes, of which the last word ends at `end`. What does not
 /// fit is left out; it holds the longest line, and the digits of a block.
-#[derive(Drop)]
+#[derive(Clone, Copy)]
 pub(crate) struct Text {
     pub(crate) bytes: [u8; 16640],
     pub(crate) used: usize,
@@ -23,7 +25,7 @@ pub(crate) fn least(a: usize, b: usize) -> usize
 
 /// `n`, or the length of `s` if that is less: how many of its first bytes are meant.
 pub(crate) fn within(n: usize, s: &[u8]) -> usize
-    ensures { IsPrefixLen result s.now }
+    ensures { result ≤ length s.now }
 {
     if n < s.len() { n } else { s.len() }
 }
@@ -37,23 +39,48 @@ fn digit(b: u8) -> u8 {
 // How many bytes are written at once in hexadecimal: a `Text` has room for 16,384 digits.
 const BLOCK: usize = 8192;
 
-// Writes the bytes of a block in hexadecimal. False: they could not be written.
-fn write_block(s: &[u8]) -> bool {
+// Writes the bytes of a block in hexadecimal.
+fn write_block(rt: &HostRuntime, s: &[u8]) -> io::Result<()> {
     let t = Text::empty().hex(s);
-    t.write(t.end)
+    t.write(rt, t.end)
 }
 
-// Writes the bytes in hexadecimal, block after block. False: not all could be written.
-fn write_hex(s: &[u8]) -> bool {
+// Writes the bytes in hexadecimal, block after block.
+fn write_hex(rt: &HostRuntime, s: &[u8]) -> io::Result<()> {
     let mut from = 0;
     while BLOCK < s.len() - from {
         let to = from + BLOCK;
-        if !write_block(&s[from..to]) {
-            return false;
-        }
+        write_block(rt, &s[from..to])?;
         from = to;
     }
-    write_block(&s[from..])
+    write_block(rt, &s[from..])
+}
+
+/// Says a line on standard error. If it cannot be written, nobody is left to be told.
+pub(crate) fn say(rt: &HostRuntime, line: &str) {
+    let _ = eprintln!(rt; "{line}");
+}
+
+// The error's words, without the number that `io::Error` writes after them.
+fn words_alone(text: &str) -> &str {
+    match text.find(" (os error ") {
+        Some(end) => text.get(..end).unwrap_or(text),
+        None => text,
+    }
+}
+
+// Room for the system's words on an error.
+const WORDS: usize = 256;
+
+/// Says on standard error what failed, and why, in the system's words.
+pub(crate) fn fail(rt: &HostRuntime, what: &str, error: io::Error) {
+    let mut text = ArrayString::<WORDS>::new();
+    if write!(text, "{error}").is_err() {
+        let _ = eprintln!(rt; "{what}: {error}");
+        return;
+    }
+    let why = words_alone(text.as_str());
+    let _ = eprintln!(rt; "{what}: {why}");
 }
 
 impl Text {
@@ -88,9 +115,8 @@ impl Text {
 
     /// With `n` in decimal.
     pub(crate) fn number(self, n: u64) -> Text {
-        let mut digits = [0u8; 20];
-        let k = io::decimal(n, &mut digits);
-        self.add(&digits[..k], b' ')
+        let mut digits = Buffer::new();
+        self.add(digits.format(n).as_bytes(), b' ')
     }
 
     /// With the bytes as pairs of upper-case hexadecimal digits.
@@ -120,31 +146,28 @@ impl Text {
         self.hex(s)
     }
 
-    // Writes the first `n` bytes. False: they could not be written.
-    fn write(self, n: usize) -> bool {
+    // Writes the first `n` bytes.
+    fn write(self, rt: &HostRuntime, n: usize) -> io::Result<()> {
         let bytes = self.bytes;
         let count = within(n, &bytes);
-        io::write_all(STDOUT_FILENO, &bytes[..count])
+        rt.write_all(&bytes[..count])
     }
 
-    /// Writes the line. False: it could not be written.
-    pub(crate) fn print(self) -> bool {
+    /// Writes the line.
+    pub(crate) fn print(self, rt: &HostRuntime) -> io::Result<()> {
         let mut t = self;
         let end = least(self.end, 16639);
         t.bytes[end] = b'\n';
-        t.write(end + 1)
+        t.write(rt, end + 1)
     }
 
-    /// Writes the line without its end, and after it these bytes in hexadecimal, `-` if there is none. False: not all could be
-    /// written.
-    pub(crate) fn print_with(self, s: &[u8]) -> bool {
+    /// Writes the line without its end, and after it these bytes in hexadecimal, `-` if there is none.
+    pub(crate) fn print_with(self, rt: &HostRuntime, s: &[u8]) -> io::Result<()> {
         if s.len() == 0 {
             let t = self.word(b"-");
-            return t.write(t.end);
+            return t.write(rt, t.end);
         }
-        if !self.write(self.used) {
-            return false;
-        }
-        write_hex(s)
+        self.write(rt, self.used)?;
+        write_hex(rt, s)
     }
 }

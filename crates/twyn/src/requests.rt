@@ -5,7 +5,7 @@ use crate::script::Lent;
 use front::gateway::twynarvel_iocb;
 
 /// What the front made of a request: whether it was carried out, and the line that is to be printed.
-#[derive(Drop)]
+#[derive(Clone, Copy)]
 pub(crate) struct Outcome {
     pub(crate) done: bool,
     pub(crate) line: Text,

@@ -58,7 +58,7 @@ pub(crate) const UNREADABLE: usize = 24;
 pub(crate) const NOTHING: usize = 25;
 
 /// What a request lends beside the image: its block, the task's own area and the shared segment.
-#[derive(Drop)]
+#[derive(Clone, Copy)]
 pub(crate) struct Lent {
     pub(crate) block: words::Bytes,
     pub(crate) task: words::Bytes,
@@ -67,7 +67,7 @@ pub(crate) struct Lent {
 
 /// A parsed line: its numbers by their places among the words, 0 where none stands, its read-protect code, whether its transfer is
 /// of a text, its bytes, the first `count` of `data`, and what its request lends.
-#[derive(Drop)]
+#[derive(Clone, Copy)]
 pub(crate) struct Call {
     pub(crate) command: usize,
     pub(crate) one: u32,

@@ -8,10 +8,11 @@ use desk::answers::accepts;
 use desk::{Desk, Reply};
 use lists::parts::clear;
 use numbers::RECORD_LIMIT;
+use std::io;
 
 /// The desk, the image's length, and whether the image was changed; whether it is known that it can be written back; whether the
 /// run is broken, so that nothing is written back; and the line that is to be printed.
-#[derive(Drop)]
+#[derive(Clone, Copy)]
 pub(crate) struct Session {
     pub(crate) desk: Desk,
     pub(crate) size: usize,
@@ -43,14 +44,16 @@ fn said(s: Session, t: Text) -> Session {
 }
 
 // The run goes on if all was printed. If not it is broken, and why is said.
-fn printed(s: Session, ok: bool) -> Session {
-    if ok {
-        return s;
+fn printed(rt: &HostRuntime, s: Session, written: io::Result<()>) -> Session {
+    match written {
+        Ok(()) => s,
+        Err(e) => {
+            print::fail(rt, "standard output", e);
+            let mut t = s;
+            t.broken = true;
+            t
+        }
     }
-    os::fail(b"standard output");
-    let mut t = s;
-    t.broken = true;
-    t
 }
 
 // With a call's desk, and its answer to print.
@@ -136,7 +139,7 @@ fn blank() -> [u8; LONGEST] {
 
 // Reads into the front of the buffer, as many bytes as the line asks for, and prints the answer and that front, refused or not.
 // Only the line's end is left to print.
-fn read_into(image: &[u8], s: Session, call: Call, buffer: &mut [u8]) -> Session {
+fn read_into(rt: &HostRuntime, image: &[u8], s: Session, call: Call, buffer: &mut [u8]) -> Session {
     let asked = call.five as usize;
     let n = print::within(asked, buffer);
     if n != asked {
@@ -157,13 +160,13 @@ fn read_into(image: &[u8], s: Session, call: Call, buffer: &mut [u8]) -> Session
         ),
     );
     let line = t.line;
-    printed(said(t, Text::empty()), line.print_with(lent))
+    printed(rt, said(t, Text::empty()), line.print_with(rt, lent))
 }
 
 // `read` and `read-text`.
-fn read(image: &[u8], s: Session, call: Call) -> Session {
+fn read(rt: &HostRuntime, image: &[u8], s: Session, call: Call) -> Session {
     let mut buffer = blank();
-    read_into(image, s, call, &mut buffer)
+    read_into(rt, image, s, call, &mut buffer)
 }
 
 fn sector(image: &[u8], t: Text, number: u32) -> Text {
@@ -195,7 +198,7 @@ fn shown(image: &[u8], t: Text, d: Desk, command: usize, number: u32) -> Text {
 }
 
 // A command that only looks at the image.
-fn look(image: &[u8], s: Session, call: Call, data: &[u8]) -> Session {
+fn look(rt: &HostRuntime, image: &[u8], s: Session, call: Call, data: &[u8]) -> Session {
     let d = s.desk;
     let t = s.line;
     let command = call.command;
@@ -203,13 +206,13 @@ fn look(image: &[u8], s: Session, call: Call, data: &[u8]) -> Session {
         return replied(s, calls::ask(d, image, call, data));
     }
     if command <= script::READ_TEXT {
-        return read(image, s, call);
+        return read(rt, image, s, call);
     }
     said(s, shown(image, t, d, command, call.one))
 }
 
 // A command on the image.
-fn work(image: &mut [u8], s: Session, call: Call) -> Session {
+fn work(rt: &HostRuntime, image: &mut [u8], s: Session, call: Call) -> Session {
     let bytes = call.data;
     let n = print::within(call.count, &bytes);
     let data = &bytes[..n];
@@ -220,7 +223,7 @@ fn work(image: &mut [u8], s: Session, call: Call) -> Session {
         script::FORMAT..=script::UPDATE_TEXT => serve(image, s, call, data),
         script::IOCB => request(image, s, call),
         script::IOCB_WITH => request_with(image, s, call),
-        _ => look(image, s, call, data),
+        _ => look(rt, image, s, call, data),
     }
 }
 
@@ -235,40 +238,46 @@ fn sized(s: Session, call: Call) -> Session {
     t
 }
 
-fn done(whole: &mut [u8], s: Session, call: Call) -> Session {
+fn done(rt: &HostRuntime, whole: &mut [u8], s: Session, call: Call) -> Session {
     let n = print::within(s.size, whole);
-    work(&mut whole[..n], s, call)
+    work(rt, &mut whole[..n], s, call)
 }
 
 // Before the first command that may change the image it is seen to that it can be written back; otherwise the run ends there,
 // with nothing changed. A command that does nothing leaves the line that it begins with.
-fn readied(name: &[u8], s: Session, command: usize) -> Session {
+fn readied(rt: &HostRuntime, name: &str, s: Session, command: usize) -> Session {
     let mut t = said(s, Text::empty().word(b"?"));
     if s.ready | (script::CHECK <= command) {
         return t;
     }
-    t.ready = store::can_save(name);
+    t.ready = store::can_save(rt, name);
     t.broken = !t.ready;
     t
 }
 
 // Prints the line, or of a read what is left of it.
-fn told(s: Session) -> Session {
+fn told(rt: &HostRuntime, s: Session) -> Session {
     if s.broken {
         return s;
     }
     let line = s.line;
-    printed(s, line.print())
+    printed(rt, s, line.print(rt))
 }
 
 /// Carries a line of the script out. `name` is the file that the image would be written to first.
-pub(crate) fn step(name: &[u8], whole: &mut Room, s: Session, call: Call) -> Session {
+pub(crate) fn step(
+    rt: &HostRuntime,
+    name: &str,
+    whole: &mut Room,
+    s: Session,
+    call: Call,
+) -> Session {
     if call.command == script::NOTHING {
         return s;
     }
-    let t = readied(name, s, call.command);
+    let t = readied(rt, name, s, call.command);
     if t.broken {
         return t;
     }
-    told(done(whole, sized(t, call), call))
+    told(rt, done(rt, whole, sized(t, call), call))
 }

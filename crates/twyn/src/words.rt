@@ -5,21 +5,21 @@ use crate::print::least;
 use lists::parts::same_bytes;
 
 /// A number read from a word, if `ok`.
-#[derive(Drop)]
+#[derive(Clone, Copy)]
 pub(crate) struct Number {
     pub(crate) ok: bool,
     pub(crate) value: u32,
 }
 
 /// A read-protect code read from a word, if `ok`.
-#[derive(Drop)]
+#[derive(Clone, Copy)]
 pub(crate) struct ReadCode {
     pub(crate) ok: bool,
     pub(crate) value: u8,
 }
 
 /// The bytes read from a word, if `ok`: the first `count` of them.
-#[derive(Drop)]
+#[derive(Clone, Copy)]
 pub(crate) struct Bytes {
     pub(crate) ok: bool,
     pub(crate) count: usize,
