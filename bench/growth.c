@@ -229,9 +229,6 @@ int main(void)
     unsigned c, k, file, total;
     double most = 0;
     printf("bench: every call on volumes of 2,048 sectors, by how much of a full volume is in use; microseconds a call, best of %d\n", TRIES);
-#ifndef __x86_64__
-    printf("These are this machine's own figures: the library's code compiled for it. The archive is for x86-64, and its figures would be an emulator's here.\n");
-#endif
     printf("\n");
     for (k = 0; k < SIZES; k++) {
         make(8u << k);
