@@ -12,7 +12,7 @@ use Rattle.compaction.specs.declared.Ending.{Ending}
 use Rattle.compaction.proofs.Quota.{compacted_most}
 use Rattle.work.specs.declared.Refusal.TheVariants.{OutOfRange}
 use Rattle.work.specs.Refusals.{◌if◌, ruled}
-use Rattle.desk.specs.declared.Answer.TheVariants.{Done, Refused}
+use Rattle.std.specs.Prelude.{Ok, Err}
 use Rattle.desk.specs.declared.Desk.{Desk}
 use Rattle.desk.specs.declared.Report.TheVariants.{Compacted}
 use Rattle.desk.specs.Desk.{State, state}
@@ -27,7 +27,7 @@ unfolding step rules done given compact_rules begin_rules judged ruled
 compact-step s n = refl
 
 -- a quota above 2,048
-pub close_refused : (img : List ℕ) (d : Desk) (n : ℕ) → most_quota < n → outcome (Refused OutOfRange) img d [] ≡ close_left (state img d) n
+pub close_refused : (img : List ℕ) (d : Desk) (n : ℕ) → most_quota < n → outcome (Err OutOfRange) img d [] ≡ close_left (state img d) n
 unfolding close_left judged ruled
 close_refused img d n h = rw (lt-ltb most_quota n h)
 
@@ -36,6 +36,6 @@ module _ (img : List ℕ) (n m : ℕ) (why : Ending) (img' : List ℕ) (h : n �
   pub moved_few : m < 4294967296
   moved_few = omega (arith, h, ap (λ (c : Closing). c.moved) e, compacted_most n img)
 
-  pub close_done : (d : Desk) → outcome (Done (Compacted m why)) img' d [] ≡ close_left (state img d) n
+  pub close_done : (d : Desk) → outcome (Ok (Compacted m why)) img' d [] ≡ close_left (state img d) n
   unfolding close_left judged ruled closed_up_to
   close_done d = rw (le-ltb most_quota n h, ← e)

@@ -1,4 +1,5 @@
 -- The file behind a LUN of a desk that fits is in use, and so is the one that an open transfer aims at.
+use Rattle.std.specs.Prelude.{Ok}
 use mathlib.Core.Path.{◌≡◌}
 use mathlib.Core.Bool.{Bool, true}
 use Prim.Native.Nat.{ℕ}
@@ -16,7 +17,6 @@ use Rattle.desk.specs.Code.Left.{Begins}
 use Rattle.desk.proofs.DeskFitting.{lun_fits_lem}
 use Rattle.desk.proofs.Openings.{ready-Begins, opened_aim, opened_ready, opened_mine}
 use Rattle.desk.proofs.WhoseLun.{mine_low, mine-held}
-use Rattle.desk.specs.declared.opening.Opened.TheVariants as opened
 
 pub held_InUse : (s : State) (p : Layout) (caller lun : ℕ) → Begins s p → mine s.desk caller lun ≡ true → InUse s.image p (lun_at s.desk lun).slot
 unfolding ready
@@ -30,7 +30,7 @@ held_InUse s p caller lun b m =
       used = u.used;
     }
 
-pub opened_InUse : (w : Bool) (s : State) (caller lun sel num : ℕ) (a : Aim) → opened_of w s caller lun sel num ≡ opened.At a → InUse s.image a.p a.slot
+pub opened_InUse : (w : Bool) (s : State) (caller lun sel num : ℕ) (a : Aim) → opened_of w s caller lun sel num ≡ Ok a → InUse s.image a.p a.slot
 unfolding aim_of
 opened_InUse w s caller lun sel num a o =
     rw (opened_aim w s caller lun sel num a o)

@@ -1,5 +1,5 @@
+pub mod Assigned
 pub mod WhoseLun
-pub mod Starts
 pub mod Bounds
 pub mod Openings
 pub mod Named

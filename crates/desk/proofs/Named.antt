@@ -21,30 +21,29 @@ use Rattle.work.specs.Refusals.{Rule}
 use Rattle.work.specs.Volumes.{named_rules, slot_of, exists}
 use Rattle.work.specs.Code.Deeds.{sought_of}
 use Rattle.work.proofs.Rules.{Passes, passed, stopped, passes, not_refused}
-use Rattle.desk.specs.declared.Answer.TheVariants.{Refused}
+use Rattle.std.specs.Prelude.{Result, Err, Ok}
 use Rattle.desk.specs.Desk.{State, ready}
 use Rattle.desk.specs.Answers.{Change, outcome, judged}
 use Rattle.desk.specs.Code.Left.{Begins}
-use Rattle.work.specs.declared.Sought.TheVariants as sought
 
-apart : (why : Refusal) (k : ℕ) → sought.Denied why ≡ sought.At k → ⊥
+apart : (why : Refusal) (k : ℕ) → Err why ≡ Ok k → ⊥
 apart why k e = let z : ◌≡◌ {A = ℕ} 0 1 = cc in omega arith
 
-one : (a b : Refusal) → sought.Denied a ≡ sought.Denied b → a ≡ b
+one : (a b : Refusal) → ◌≡◌ {A = Result ℕ Refusal} (Err a) (Err b) → a ≡ b
 one a b e = cc
 
 -- of the image alone
-module _ (img desc : List ℕ) (k : ℕ) (e : sought_of img desc ≡ sought.At k) where
-  went : sought_of img desc ≡ sought.At (slot_of img desc)
+module _ (img desc : List ℕ) (k : ℕ) (e : sought_of img desc ≡ Ok k) where
+  went : sought_of img desc ≡ Ok (slot_of img desc)
   unfolding sought_of
-  went = not_refused sought.Denied (sought.At (slot_of img desc)) (sought.At k) (λ w x. apart w k x) (named_rules img desc) e
+  went = not_refused Err (Ok (slot_of img desc)) (Ok k) (λ w x. apart w k x) (named_rules img desc) e
 
   pub named_slot : k ≡ slot_of img desc
   named_slot = let x = sym e ∙ went in cc
 
   told : Passes (named_rules img desc)
   unfolding sought_of
-  told = passes sought.Denied (sought.At (slot_of img desc)) (λ w x. apart w _ x) (named_rules img desc) went
+  told = passes Err (Ok (slot_of img desc)) (λ w x. apart w _ x) (named_rules img desc) went
 
   described : descriptor desc ≡ true
   unfolding named_rules
@@ -65,17 +64,17 @@ module _ (img desc : List ℕ) (k : ℕ) (e : sought_of img desc ≡ sought.At k
   named_holds = index_holds (named desc) (entries img) [] named_low
 
 module _ (s : State) (desc : List ℕ) where
-  pub named_refused : (why : Refusal) → sought_of s.image desc ≡ sought.Denied why → (qs : List Rule) (buf : List ℕ) (c : Change)
-      → judged (named_rules s.image desc ++ qs) s buf c ≡ outcome (Refused why) s.image s.desk buf
+  pub named_refused : (why : Refusal) → sought_of s.image desc ≡ Err why → (qs : List Rule) (buf : List ℕ) (c : Change)
+      → judged (named_rules s.image desc ++ qs) s buf c ≡ outcome (Err why) s.image s.desk buf
   unfolding sought_of judged
   named_refused why e qs buf c =
-      stopped sought.Denied (sought.At (slot_of s.image desc)) (λ w x. apart w _ (sym x)) one (named_rules s.image desc) why e _ qs _
+      stopped Err (Ok (slot_of s.image desc)) (λ w x. apart w _ (sym x)) one (named_rules s.image desc) why e _ qs _
 
-  module _ (k : ℕ) (e : sought_of s.image desc ≡ sought.At k) where
+  module _ (k : ℕ) (e : sought_of s.image desc ≡ Ok k) where
     pub named_left : (qs : List Rule) (buf : List ℕ) (c : Change) → judged (named_rules s.image desc ++ qs) s buf c ≡ judged qs s buf c
     unfolding sought_of judged
     named_left qs buf c =
-        passed sought.Denied (sought.At (slot_of s.image desc)) (λ w x. apart w _ x) (named_rules s.image desc) (went s.image desc k e) _ qs _
+        passed Err (Ok (slot_of s.image desc)) (λ w x. apart w _ x) (named_rules s.image desc) (went s.image desc k e) _ qs _
 
     pub named_InUse : (p : Layout) → Begins s p → InUse s.image p k
     unfolding ready slot_of

@@ -27,7 +27,7 @@ use Rattle.desk.specs.Desk.{State, ready, lun_at, mine, spare, file_of, aimed, p
 use Rattle.desk.specs.declared.Desk.{Desk}
 use Rattle.desk.specs.declared.Report.TheVariants.{Moved, Checked, Compacted}
 use Rattle.desk.specs.Answers.{Change, Outcome, judged, outcome}
-use Rattle.desk.specs.declared.Answer.{Answer}
+use Rattle.desk.specs.Answers.{Answer}
 
 -- Any numbers, any bytes, any lengths; rc is a new file's read-protect code, `offered` the one that an assign offers
 pub data Call : Type 0 where

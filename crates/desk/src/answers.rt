@@ -10,26 +10,7 @@ use work::Refusal;
 pub fn code_of(why: Refusal) -> u8
     ensures { result ≡ code why }
 {
-    match why {
-        Refusal::UnknownType => 0x02,
-        Refusal::BadLun => 0x03,
-        Refusal::WrongCode => 0x07,
-        Refusal::NoRight => 0x0B,
-        Refusal::InUse => 0x0D,
-        Refusal::NoFile => 0x17,
-        Refusal::BadRequest => 0x82,
-        Refusal::BadLength => 0x84,
-        Refusal::PastEnd => 0xC2,
-        Refusal::OutOfRange => 0x60,
-        Refusal::OtherLength => 0x61,
-        Refusal::Exists => 0x62,
-        Refusal::NoRoom => 0x63,
-        Refusal::BadDescriptor => 0x64,
-        Refusal::NoSegment => 0x65,
-        Refusal::NameTaken => 0x66,
-        Refusal::DirectoryFull => 0x67,
-        Refusal::NotSound => 0x6F,
-    }
+    why as u8
 }
 
 fn moved_by(r: Report) -> u32
@@ -37,11 +18,7 @@ fn moved_by(r: Report) -> u32
 {
     match r {
         Report::Moved(n) => n,
-        Report::Checked { sound: _, free: _ } => 0,
-        Report::Compacted {
-            moved: _,
-            ending: _,
-        } => 0,
+        Report::Checked { .. } | Report::Compacted { .. } => 0,
     }
 }
 
@@ -50,8 +27,8 @@ pub fn status_of(a: Answer) -> u8
     ensures { result ≡ status a }
 {
     match a {
-        Answer::Done(_) => 0x00,
-        Answer::Refused(why) => code_of(why),
+        Ok(_) => 0x00,
+        Err(why) => code_of(why),
     }
 }
 
@@ -60,17 +37,15 @@ pub fn moved_of(a: Answer) -> u32
     ensures { result ≡ moved a }
 {
     match a {
-        Answer::Done(r) => moved_by(r),
-        Answer::Refused(_) => 0,
+        Ok(r) => moved_by(r),
+        Err(_) => 0,
     }
 }
 
 /// Whether the call was carried out.
+#[tactic(auto, unfolding(crate::specs::Answers::accepts))]
 pub fn accepts(a: Answer) -> bool
     ensures { result ≡ accepts a }
 {
-    match a {
-        Answer::Done(_) => true,
-        Answer::Refused(_) => false,
-    }
+    a.is_ok()
 }

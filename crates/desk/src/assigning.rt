@@ -7,25 +7,26 @@ ghost use Rattle.files.specs.Code.Slots.{InUse};
 ghost use Rattle.desk.specs.Desk.{state};
 ghost use Rattle.desk.specs.Answers.{outcome};
 ghost use Rattle.desk.specs.Calls.{Ensured, assign, close, rewind, start_of, seat_of};
-ghost use Rattle.desk.specs.Code.Left.{Begins, mode_left, assign_left, seat_left};
+ghost use Rattle.desk.specs.Code.Left.{seat_left};
 
-use crate::opening::Begun;
-use crate::{Desk, Reply, Report};
+use crate::{Answer, Desk, Reply, Report};
 use files::extent::extent_of;
 use files::rights::has_right;
 use luns::fits::reads_by_right;
 use luns::{Lun, Mode, Place};
+use std::convert::TryFrom;
 use volume::locate::Layout;
 use volume::names::user_of;
+use work::Refusal;
 use work::finding::seek;
-use work::{Refusal, Sought};
 
 // Fresh, or for a writer at the end the last record or sector.
+#[tactic(auto, using(lists::proofs::Steps::bool_steps), unfolding(crate::specs::Calls::start_of))]
 fn start_of(image: &[u8], p: Layout, slot: usize, mode: Mode, at_end: bool) -> Place
     requires { InUse image.now p slot }
     ensures { result ≡ start_of image.now (entry_at image.now slot) mode at_end }
 {
-    if !(at_end & mode.writes()) {
+    if !(at_end && mode.writes()) {
         return Place::Fresh;
     }
     let n = extent_of(image, p, slot);
@@ -54,93 +55,37 @@ fn seat_of(
         held: true,
         user: caller,
         slot: slot as u32,
-        mode: mode,
-        offered: offered,
-        place: place,
+        mode,
+        offered,
+        place,
     }
 }
 
+// Stays: caller, LUN, kind, mode, selector, sizes and quota are any numbers, as C hands them over and as the definition `Call` of
+// specs/Calls has them.
 impl Desk {
     // The right to read, the right to write, and modes that agree: then the LUN is taken.
-    fn seat(self, image: &[u8], p: Layout, caller: u32, owner: u32, lun: u32, u: Lun) -> Reply
+    #[tactic(auto, using(lists::proofs::Steps::bool_steps), unfolding(crate::specs::Code::Left::seat_left, crate::specs::Calls::seat_rules, crate::specs::Calls::quietly, crate::specs::Answers::judged, work::specs::Refusals::ruled))]
+    fn seat(&mut self, image: &[u8], p: Layout, caller: u32, owner: u32, lun: u32, u: Lun) -> Answer
         requires { Located image.now p × (u.slot < 8 * p.dirs) × (lun < lun_count) }
-        ensures { outcome result.answer image.now result.desk []
-            ≡ seat_left (state image.now self) caller owner lun u }
+        ensures { outcome result image.now self.new []
+            ≡ seat_left (state image.now self.old) caller owner lun u }
     {
         if !reads_by_right(image, p, u) {
-            return Reply::refused(Refusal::WrongCode, self);
+            return Err(Refusal::WrongCode);
         }
-        let mode = u.mode;
-        let luns = self.luns;
-        if (mode.writes() & !has_right(caller, owner)) | !u.agrees_from(luns, 0) {
-            return Reply::refused(Refusal::NoRight, self);
+        if u.mode.writes() && !has_right(caller, owner) || !u.agrees_from(&self.luns, 0) {
+            return Err(Refusal::NoRight);
         }
-        Reply::done(Report::Moved(0), self.put(lun, u))
-    }
-
-    // The file is looked for.
-    fn assign_named(
-        self,
-        image: &[u8],
-        p: Layout,
-        caller: u32,
-        lun: u32,
-        desc: &[u8],
-        mode: Mode,
-        at_end: bool,
-        offered: u8,
-    ) -> Reply
-        requires { Begins (state image.now self) p × (lun < lun_count) }
-        ensures { outcome result.answer image.now result.desk [] ≡ assign_left (state image.now self) caller lun
-            desc.now mode at_end offered }
-    {
-        let sought = seek(image, p, desc);
-        match sought {
-            Sought::Denied(why) => Reply::refused(why, self),
-            Sought::At(slot) => {
-                let owner = user_of(desc) as u32;
-                let u = seat_of(image, p, caller, slot, mode, at_end, offered);
-                self.seat(image, p, caller, owner, lun, u)
-            }
-        }
-    }
-
-    // The mode is looked up.
-    fn assign_mode(
-        self,
-        image: &[u8],
-        p: Layout,
-        caller: u32,
-        lun: u32,
-        desc: &[u8],
-        mode: u32,
-        at_end: bool,
-        offered: u8,
-    ) -> Reply
-        requires { Begins (state image.now self) p × (lun < lun_count) }
-        ensures { outcome result.answer image.now result.desk [] ≡ mode_left (state image.now self) caller lun
-            desc.now mode at_end offered }
-    {
-        if 7 < mode {
-            return Reply::refused(Refusal::UnknownType, self);
-        }
-        self.assign_named(
-            image,
-            p,
-            caller,
-            lun,
-            desc,
-            Mode::numbered(mode),
-            at_end,
-            offered,
-        )
+        self.put(lun, u);
+        Ok(Report::Moved(0))
     }
 
     /// Gives a free LUN to a file, in a mode 0 to 7, at its start or for a writer at its end; the LUN keeps the code offered. Refuses a
     /// volume that is not sound or a desk that does not fit, then the LUN, the mode, the descriptor, a file that is not there, a reading
     /// mode without the right to read, and a mode without the right or in clash.
     pub fn assign(
-        self,
+        mut self,
         image: &[u8],
         caller: u32,
         lun: u32,
@@ -152,39 +97,66 @@ impl Desk {
         ensures { Ensured (assign caller lun desc.now mode at_end offered) (state image.now self)
             result.answer image.now result.desk [] }
     {
-        let begun = self.begin(image, self.spare(caller, lun));
-        match begun {
-            Begun::Refused(why) => Reply::refused(why, self),
-            Begun::At(p) => self.assign_mode(image, p, caller, lun, desc, mode, at_end, offered),
-        }
+        let answer = self.try_assign(image, caller, lun, desc, mode, at_end, offered);
+        self.reply(answer)
+    }
+
+    fn try_assign(
+        &mut self,
+        image: &[u8],
+        caller: u32,
+        lun: u32,
+        desc: &[u8],
+        mode: u32,
+        at_end: bool,
+        offered: u8,
+    ) -> Answer
+        ensures { Ensured (assign caller lun desc.now mode at_end offered) (state image.now self.old)
+            result image.now self.new [] }
+    {
+        let p = self.begin(image, self.spare(caller, lun))?;
+        let Ok(mode) = Mode::try_from(mode) else {
+            return Err(Refusal::UnknownType);
+        };
+        let slot = seek(image, p, desc)?;
+        let owner = user_of(desc) as u32;
+        let u = seat_of(image, p, caller, slot, mode, at_end, offered);
+        self.seat(image, p, caller, owner, lun, u)
     }
 
     /// Frees a LUN. Refuses a volume that is not sound or a desk that does not fit it, then a LUN that is not the caller's.
-    pub fn close(self, image: &[u8], caller: u32, lun: u32) -> Reply
+    pub fn close(mut self, image: &[u8], caller: u32, lun: u32) -> Reply
         ensures { Ensured (close caller lun) (state image.now self)
             result.answer image.now result.desk [] }
     {
-        let begun = self.begin(image, self.mine(caller, lun));
-        match begun {
-            Begun::Refused(why) => Reply::refused(why, self),
-            Begun::At(_) => Reply::done(Report::Moved(0), self.put(lun, Lun::free())),
-        }
+        let answer = self.try_close(image, caller, lun);
+        self.reply(answer)
+    }
+
+    fn try_close(&mut self, image: &[u8], caller: u32, lun: u32) -> Answer
+        ensures { Ensured (close caller lun) (state image.now self.old)
+            result image.now self.new [] }
+    {
+        self.begin(image, self.mine(caller, lun))?;
+        self.put(lun, Lun::free());
+        Ok(Report::Moved(0))
     }
 
     /// Makes a LUN's place Fresh. Refuses as close does.
-    pub fn rewind(self, image: &[u8], caller: u32, lun: u32) -> Reply
+    pub fn rewind(mut self, image: &[u8], caller: u32, lun: u32) -> Reply
         ensures { Ensured (rewind caller lun) (state image.now self)
             result.answer image.now result.desk [] }
     {
-        let begun = self.begin(image, self.mine(caller, lun));
-        match begun {
-            Begun::Refused(why) => Reply::refused(why, self),
-            Begun::At(_) => {
-                Reply::done(
-                    Report::Moved(0),
-                    self.put(lun, self.lun(lun).moved_to(Place::Fresh)),
-                )
-            }
-        }
+        let answer = self.try_rewind(image, caller, lun);
+        self.reply(answer)
+    }
+
+    fn try_rewind(&mut self, image: &[u8], caller: u32, lun: u32) -> Answer
+        ensures { Ensured (rewind caller lun) (state image.now self.old)
+            result image.now self.new [] }
+    {
+        self.begin(image, self.mine(caller, lun))?;
+        self.put(lun, self.lun(lun).moved_to(Place::Fresh));
+        Ok(Report::Moved(0))
     }
 }

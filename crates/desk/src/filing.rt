@@ -5,10 +5,9 @@ ghost use Rattle.files.specs.Code.Slots.{InUse};
 ghost use Rattle.desk.specs.Desk.{state};
 ghost use Rattle.desk.specs.Answers.{outcome};
 ghost use Rattle.desk.specs.Calls.{Ensured, allocate, delete};
-ghost use Rattle.desk.specs.Code.Left.{Begins, delete_left, remove_left};
+ghost use Rattle.desk.specs.Code.Left.{remove_left};
 
-use crate::opening::Begun;
-use crate::{Desk, Reply, Report};
+use crate::{Answer, Desk, Reply, Report};
 use files::deletion;
 use files::rights::has_right;
 use luns::holding::is_held;
@@ -16,8 +15,10 @@ use numbers::LAST_USER;
 use volume::locate::Layout;
 use volume::names::user_of;
 use work::finding::seek;
-use work::{Refusal, Sought, making};
+use work::{Refusal, making};
 
+// Stays: caller, LUN, kind, mode, selector, sizes and quota are any numbers, as C hands them over and as the definition `Call` of
+// specs/Calls has them.
 impl Desk {
     /// Makes a file of kind 0, contiguous, of this size, or of kind 1, sequential, of this record length, 0 for variable ones,
     /// with this read-protect code. Refuses a volume that is not sound or a desk that does not fit, then the caller, the descriptor, the
@@ -36,53 +37,51 @@ impl Desk {
         ensures { Ensured (allocate caller desc.now kind size «record» read_code) (state image.old self)
             result.answer image.new result.desk [] }
     {
-        let begun = self.begin(image, caller <= LAST_USER);
-        match begun {
-            Begun::Refused(why) => Reply::refused(why, self),
-            Begun::At(p) => self.answer(
-                self,
-                making::allocate(
-                    image,
-                    p,
-                    caller,
-                    desc,
-                    kind as usize,
-                    size as usize,
-                    record as usize,
-                    read_code,
-                ),
-            ),
-        }
+        let answer = self.try_allocate(image, caller, desc, kind, size, record, read_code);
+        self.reply(answer)
+    }
+
+    fn try_allocate(
+        &self,
+        image: &mut [u8],
+        caller: u32,
+        desc: &[u8],
+        kind: u32,
+        size: u32,
+        record: u32,
+        read_code: u8,
+    ) -> Answer
+        ensures { Ensured (allocate caller desc.now kind size «record» read_code) (state image.old self.now)
+            result image.new self.now [] }
+    {
+        let p = self.begin(image, caller <= LAST_USER)?;
+        making::allocate(
+            image,
+            p,
+            caller,
+            desc,
+            kind as usize,
+            size as usize,
+            record as usize,
+            read_code,
+        )?;
+        Ok(Report::Moved(0))
     }
 
     // The file in a slot, which this descriptor names.
-    fn remove(self, image: &mut [u8], p: Layout, caller: u32, desc: &[u8], slot: usize) -> Reply
+    fn remove(&self, image: &mut [u8], p: Layout, caller: u32, desc: &[u8], slot: usize) -> Answer
         requires { InUse image.old p slot × (length desc.now ≡ 20) }
-        ensures { outcome result.answer image.new result.desk [] ≡ remove_left (state image.old self) caller
+        ensures { outcome result image.new self.now [] ≡ remove_left (state image.old self.now) caller
             (user_of desc.now) slot }
     {
         if !has_right(caller, user_of(desc) as u32) {
-            return Reply::refused(Refusal::NoRight, self);
+            return Err(Refusal::NoRight);
         }
-        let luns = self.luns;
-        if is_held(luns, slot as u32) {
-            return Reply::refused(Refusal::InUse, self);
+        if is_held(&self.luns, slot as u32) {
+            return Err(Refusal::InUse);
         }
         deletion::delete(image, p, slot);
-        Reply::done(Report::Moved(0), self)
-    }
-
-    // The file that a descriptor names.
-    fn delete_named(self, image: &mut [u8], p: Layout, caller: u32, desc: &[u8]) -> Reply
-        requires { Begins (state image.old self) p }
-        ensures { outcome result.answer image.new result.desk [] ≡ delete_left (state image.old self) caller
-            desc.now }
-    {
-        let sought = seek(image, p, desc);
-        match sought {
-            Sought::Denied(why) => Reply::refused(why, self),
-            Sought::At(slot) => self.remove(image, p, caller, desc, slot),
-        }
+        Ok(Report::Moved(0))
     }
 
     /// Deletes a file of the caller's, or any if the caller is user 0. Refuses a volume that is not sound or a desk that does not
@@ -91,10 +90,16 @@ impl Desk {
         ensures { Ensured (delete caller desc.now) (state image.old self)
             result.answer image.new result.desk [] }
     {
-        let begun = self.begin(image, caller <= LAST_USER);
-        match begun {
-            Begun::Refused(why) => Reply::refused(why, self),
-            Begun::At(p) => self.delete_named(image, p, caller, desc),
-        }
+        let answer = self.try_delete(image, caller, desc);
+        self.reply(answer)
+    }
+
+    fn try_delete(&self, image: &mut [u8], caller: u32, desc: &[u8]) -> Answer
+        ensures { Ensured (delete caller desc.now) (state image.old self.now)
+            result image.new self.now [] }
+    {
+        let p = self.begin(image, caller <= LAST_USER)?;
+        let slot = seek(image, p, desc)?;
+        self.remove(image, p, caller, desc, slot)
     }
 }

@@ -32,12 +32,8 @@ pub enum Report {
     Compacted { moved: u32, ending: Ending },
 }
 
-/// What a call answers: done, with its report; or refused.
-#[derive(Clone, Copy)]
-pub enum Answer {
-    Done(Report),
-    Refused(Refusal),
-}
+/// What a call answers: what was done, or why it is refused.
+pub type Answer = Result<Report, Refusal>;
 
 /// What every call hands back: its answer, and the desk after it.
 #[derive(Clone, Copy)]

@@ -21,46 +21,36 @@ impl Desk {
     }
 
     /// One LUN.
-    pub fn lun(self, lun: u32) -> Lun
+    pub fn lun(&self, lun: u32) -> Lun
         requires { lun < lun_count }
-        ensures { result ≡ lun_at self lun }
+        ensures { result ≡ lun_at self.now lun }
     {
-        let at = lun as usize;
-        self.luns[at]
+        self.luns[lun as usize]
     }
 
-    /// The desk with one LUN replaced.
-    pub fn put(self, lun: u32, u: Lun) -> Desk
+    /// Replaces one LUN.
+    pub fn put(&mut self, lun: u32, u: Lun)
         requires { lun < lun_count }
-        ensures { result ≡ put_lun self lun u }
+        ensures { self.new ≡ put_lun self.old lun u }
     {
-        let at = lun as usize;
-        let mut luns = self.luns;
-        luns[at] = u;
-        Desk { luns: luns }
+        self.luns[lun as usize] = u;
     }
 
     /// Whether the caller is in range and holds this LUN.
-    pub fn mine(self, caller: u32, lun: u32) -> bool
-        ensures { result ≡ mine self caller lun }
+    #[tactic(auto, using(lists::proofs::Steps::bool_steps, std::proofs::lemmas::Bool::Decides::nat_tests), unfolding(crate::specs::Desk::mine, crate::specs::Desk::lun_at, luns::specs::Luns::free_lun))]
+    pub fn mine(&self, caller: u32, lun: u32) -> bool
+        ensures { result ≡ mine self.now caller lun }
     {
         let at = lun as usize;
-        if LUNS <= at {
-            return false;
-        }
-        let u = self.luns[at];
-        (caller <= LAST_USER) & u.held & (u.user == caller)
+        caller <= LAST_USER && at < LUNS && self.luns[at].held && self.luns[at].user == caller
     }
 
     /// Whether the caller is in range and this LUN free.
-    pub fn spare(self, caller: u32, lun: u32) -> bool
-        ensures { result ≡ spare self caller lun }
+    #[tactic(auto, using(lists::proofs::Steps::bool_steps, std::proofs::lemmas::Bool::Decides::nat_tests), unfolding(crate::specs::Desk::spare, crate::specs::Desk::lun_at, luns::specs::Luns::free_lun))]
+    pub fn spare(&self, caller: u32, lun: u32) -> bool
+        ensures { result ≡ spare self.now caller lun }
     {
         let at = lun as usize;
-        if LUNS <= at {
-            return false;
-        }
-        let u = self.luns[at];
-        (caller <= LAST_USER) & !u.held
+        caller <= LAST_USER && at < LUNS && !self.luns[at].held
     }
 }

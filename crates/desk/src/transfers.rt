@@ -2,17 +2,18 @@
 ghost use Rattle.desk.specs.Desk.{state};
 ghost use Rattle.desk.specs.Calls.{Ensured, read, write, update};
 
-use crate::opening::Opened;
-use crate::{Desk, Reply};
+use crate::{Answer, Desk, Reply};
 use work::{reading, updating, writing};
 
+// Stays: caller, LUN, kind, mode, selector, sizes and quota are any numbers, as C hands them over and as the definition `Call` of
+// specs/Calls has them.
 impl Desk {
     /// Reads sectors or a record into the buffer: Next, Current, Prior or Random, 0 to 3. `formatted`: a variable record is handed over
     /// as the text that it stands for; other files ignore it. Refuses a volume that is not sound or a desk that does not fit, then the
     /// LUN, the mode or selector, a buffer that sectors do not fill, a target past the end, and a buffer shorter than the record or its
     /// text.
     pub fn read(
-        self,
+        mut self,
         image: &[u8],
         caller: u32,
         lun: u32,
@@ -24,14 +25,26 @@ impl Desk {
         ensures { Ensured (read caller lun sel num formatted buffer.old) (state image.now self)
             result.answer image.now result.desk buffer.new }
     {
-        let opened = self.open(image, caller, lun, sel, num, false);
-        match opened {
-            Opened::Refused(why) => Reply::refused(why, self),
-            Opened::At(a) => {
-                let p = a.p;
-                self.settle(lun, reading::read(image, p, a.slot, a.i, formatted, buffer))
-            }
-        }
+        let answer = self.try_read(image, caller, lun, sel, num, formatted, buffer);
+        self.reply(answer)
+    }
+
+    fn try_read(
+        &mut self,
+        image: &[u8],
+        caller: u32,
+        lun: u32,
+        sel: u32,
+        num: u32,
+        formatted: bool,
+        buffer: &mut [u8],
+    ) -> Answer
+        ensures { Ensured (read caller lun sel num formatted buffer.old) (state image.now self.old)
+            result image.now self.new buffer.new }
+    {
+        let a = self.open(image, caller, lun, sel, num, false)?;
+        let done = reading::read(image, a.p, a.slot, a.i, formatted, buffer)?;
+        Ok(self.settle(lun, done))
     }
 
     /// Writes sectors, or appends a record: Next, Current, Prior or Random, 0 to 3. `formatted`: the data are a text, which a variable
@@ -39,7 +52,7 @@ impl Desk {
     /// the LUN, the mode or selector, the length or a text's byte of $80 or more, a target past the end, a record that is there, too few
     /// free sectors, and a 63rd segment.
     pub fn write(
-        self,
+        mut self,
         image: &mut [u8],
         caller: u32,
         lun: u32,
@@ -51,21 +64,33 @@ impl Desk {
         ensures { Ensured (write caller lun sel num formatted «data».now) (state image.old self)
             result.answer image.new result.desk «data».now }
     {
-        let opened = self.open(image, caller, lun, sel, num, true);
-        match opened {
-            Opened::Refused(why) => Reply::refused(why, self),
-            Opened::At(a) => {
-                let p = a.p;
-                self.settle(lun, writing::write(image, p, a.slot, a.i, formatted, data))
-            }
-        }
+        let answer = self.try_write(image, caller, lun, sel, num, formatted, data);
+        self.reply(answer)
+    }
+
+    fn try_write(
+        &mut self,
+        image: &mut [u8],
+        caller: u32,
+        lun: u32,
+        sel: u32,
+        num: u32,
+        formatted: bool,
+        data: &[u8],
+    ) -> Answer
+        ensures { Ensured (write caller lun sel num formatted «data».now) (state image.old self.old)
+            result image.new self.new «data».now }
+    {
+        let a = self.open(image, caller, lun, sel, num, true)?;
+        let done = writing::write(image, a.p, a.slot, a.i, formatted, data)?;
+        Ok(self.settle(lun, done))
     }
 
     /// Replaces a record by one that is stored in the same length: Next, Current, Prior or Random, 0 to 3. `formatted` as in a write.
     /// Refuses a volume that is not sound or a desk that does not fit, then the LUN, the mode or selector, a contiguous file, the length
     /// or a text's byte of $80 or more, a target past the end, and another length.
     pub fn update(
-        self,
+        mut self,
         image: &mut [u8],
         caller: u32,
         lun: u32,
@@ -77,16 +102,25 @@ impl Desk {
         ensures { Ensured (update caller lun sel num formatted «data».now) (state image.old self)
             result.answer image.new result.desk «data».now }
     {
-        let opened = self.open(image, caller, lun, sel, num, true);
-        match opened {
-            Opened::Refused(why) => Reply::refused(why, self),
-            Opened::At(a) => {
-                let p = a.p;
-                self.settle(
-                    lun,
-                    updating::update(image, p, a.slot, a.i, formatted, data),
-                )
-            }
-        }
+        let answer = self.try_update(image, caller, lun, sel, num, formatted, data);
+        self.reply(answer)
+    }
+
+    fn try_update(
+        &mut self,
+        image: &mut [u8],
+        caller: u32,
+        lun: u32,
+        sel: u32,
+        num: u32,
+        formatted: bool,
+        data: &[u8],
+    ) -> Answer
+        ensures { Ensured (update caller lun sel num formatted «data».now) (state image.old self.old)
+            result image.new self.new «data».now }
+    {
+        let a = self.open(image, caller, lun, sel, num, true)?;
+        let done = updating::update(image, a.p, a.slot, a.i, formatted, data)?;
+        Ok(self.settle(lun, done))
     }
 }

@@ -1,27 +1,35 @@
 // Format, which makes a volume of any bytes, check, which judges any bytes, bring-up of a volume from before there were record counts, and
 // compact, which closes a volume up.
-ghost use Rattle.std.specs.Prelude.{[], ◌≡◌};
+ghost use Rattle.std.specs.Prelude.{[]};
 ghost use Rattle.desk.specs.Desk.{state};
-ghost use Rattle.desk.specs.Answers.{outcome};
 ghost use Rattle.desk.specs.Calls.{Ensured, format, check, bring_up, compact};
-ghost use Rattle.desk.specs.Code.Left.{Begins, close_left};
 
-use crate::opening::Begun;
-use crate::{Desk, Reply, Report};
+use crate::{Answer, Desk, Reply, Report};
 use compaction::closing;
 use files::check;
 use numbers::MOST_QUOTA;
-use volume::locate::Layout;
 use work::{Refusal, bringing, formatting};
 
+// Stays: caller, LUN, kind, mode, selector, sizes and quota are any numbers, as C hands them over and as the definition `Call` of
+// specs/Calls has them.
 impl Desk {
     /// Makes the whole image an empty volume with this ID of four bytes and 1 to 8 directory sectors, and answers an empty desk.
     /// Refuses a length that is not 256 times 16 to 2,048, a number of directory sectors out of range, and a bad ID.
-    pub fn format(self, image: &mut [u8], id: &[u8], dirs: u32) -> Reply
+    pub fn format(mut self, image: &mut [u8], id: &[u8], dirs: u32) -> Reply
         ensures { Ensured (format id.now dirs) (state image.old self)
             result.answer image.new result.desk [] }
     {
-        self.answer(Desk::empty(), formatting::format(image, id, dirs as usize))
+        let answer = self.try_format(image, id, dirs);
+        self.reply(answer)
+    }
+
+    fn try_format(&mut self, image: &mut [u8], id: &[u8], dirs: u32) -> Answer
+        ensures { Ensured (format id.now dirs) (state image.old self.old)
+            result image.new self.new [] }
+    {
+        formatting::format(image, id, dirs as usize)?;
+        *self = Desk::empty();
+        Ok(Report::Moved(0))
     }
 
     /// Answers whether the image is a sound volume, and its free sectors, 0 if it is not. Never refuses.
@@ -30,13 +38,10 @@ impl Desk {
     {
         let verdict = check::check(image);
         let free = verdict.free as u32;
-        Reply::done(
-            Report::Checked {
-                sound: verdict.sound,
-                free: free,
-            },
-            self,
-        )
+        self.reply(Ok(Report::Checked {
+            sound: verdict.sound,
+            free,
+        }))
     }
 
     /// Gives each sequential entry of a volume from before there were record counts its count, and changes nothing else. Looks at no desk.
@@ -44,28 +49,31 @@ impl Desk {
     pub fn bring_up(self, image: &mut [u8]) -> Reply
         ensures { Ensured bring_up (state image.old self) result.answer image.new result.desk [] }
     {
-        self.answer(self, bringing::bring_up(image))
+        let answer = self.try_bring_up(image);
+        self.reply(answer)
     }
 
-    // Of a sound volume that the desk fits.
-    fn close_up(self, image: &mut [u8], p: Layout, quota: u32) -> Reply
-        requires { Begins (state image.old self) p }
-        ensures { outcome result.answer image.new result.desk [] ≡ close_left (state image.old self) quota }
+    fn try_bring_up(&self, image: &mut [u8]) -> Answer
+        ensures { Ensured bring_up (state image.old self.now) result image.new self.now [] }
     {
+        bringing::bring_up(image)?;
+        Ok(Report::Moved(0))
+    }
+
+    fn try_compact(&self, image: &mut [u8], quota: u32) -> Answer
+        ensures { Ensured (compact quota) (state image.old self.now)
+            result image.new self.now [] }
+    {
+        let p = self.begin(image, true)?;
         let most = quota as usize;
         if MOST_QUOTA < most {
-            return Reply::refused(Refusal::OutOfRange, self);
+            return Err(Refusal::OutOfRange);
         }
-        let c = closing::compact(image, p, most);
-        let moved = c.moved as u32;
-        let ending = c.ending;
-        Reply::done(
-            Report::Compacted {
-                moved: moved,
-                ending: ending,
-            },
-            self,
-        )
+        let closing = closing::compact(image, p, most);
+        Ok(Report::Compacted {
+            moved: closing.moved as u32,
+            ending: closing.ending,
+        })
     }
 
     /// Closes the volume up: the highest-numbered data sector of any sequential file goes to the lowest free sector, as long as that one is
@@ -74,10 +82,7 @@ impl Desk {
     pub fn compact(self, image: &mut [u8], quota: u32) -> Reply
         ensures { Ensured (compact quota) (state image.old self) result.answer image.new result.desk [] }
     {
-        let begun = self.begin(image, true);
-        match begun {
-            Begun::Refused(why) => Reply::refused(why, self),
-            Begun::At(p) => self.close_up(image, p, quota),
-        }
+        let answer = self.try_compact(image, quota);
+        self.reply(answer)
     }
 }

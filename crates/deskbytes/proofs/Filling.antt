@@ -1,17 +1,18 @@
--- A list filled from the front, one element's bytes or one element at a time; and pieces that are lent one at a time.
+-- A list filled from the front, one element's bytes or one element at a time; and the pieces that the code takes.
 use mathlib.Core.Path.{◌≡◌, refl, sym, ap, ◌∙◌}
 use mathlib.Core.List.{List, [], ◌∷◌, ◌++◌, map, map-append, append_assoc, append-nil}
-use Prim.Native.Nat.{ℕ, ◌+◌, ◌*◌, ◌<◌, ◌≤◌, ◌-◌}
+use Prim.Native.Nat.{ℕ, zero, suc, ◌+◌, ◌*◌, ◌<◌, ◌≤◌, ◌/◌}
 use native.Mathlib.Omega.{arith}
 use native.Mathlib.Numerals.{add-one}
 use native.Mathlib.Nat.{mul-suc}
 use lib.ListN.{length, get_or, take, drop, set, length-append}
 use lib.Seq.{take_at, take-suc, take-suc-set, length-take-le}
+use Rattle.std.specs.Simd.{first_chunks}
+use Rattle.numbers.specs.Numbers.{lun_count}
 use Rattle.lists.specs.Lists.{flat, pieces}
 use Rattle.lists.specs.Parts.{put}
-use Rattle.lists.proofs.LentParts.{lent}
+use Rattle.deskbytes.specs.DeskBytes.{lun_bytes, desk_size}
 use Rattle.lists.proofs.Lists.{flat-append}
-use Rattle.lists.proofs.Pieces.{get_or-pieces}
 
 take-put : (i : ℕ) (b l : List ℕ) → i ≤ length l → take (i + length b) (put i b l) ≡ take i l ++ b
 unfolding put
@@ -37,6 +38,14 @@ pub map-set : {A B : Type 0} (f : A → B) (xs : List A) (k : ℕ) (d : A) (out 
 map-set f xs k d out y h g e inv =
     rw (add-one, take-suc-set out k y g, take-suc xs k d h, inv, e) (sym (map-append f (take k xs) (get_or xs k d ∷ [])))
 
--- piece k, as it is lent
-pub lent_piece : (w n k : ℕ) (l : List ℕ) → k < n → take (w * k + w - w * k) (drop (w * k) l) ≡ get_or (pieces n w l) k []
-lent_piece w n k l h = lent (w * k) (w * k + w) w l refl ∙ sym (get_or-pieces w n k l h)
+-- the pieces, as the code takes them
+pub first_chunks_pieces : (w n : ℕ) (l : List ℕ) → first_chunks w n l ≡ pieces n w l
+unfolding pieces
+first_chunks_pieces w zero l = refl
+first_chunks_pieces w (suc n) l = ap (λ (ps : List (List ℕ)). take w l ∷ ps) (first_chunks_pieces w n (drop w l))
+
+-- of 192 bytes there are sixteen
+pub chunks_are : (bs : List ℕ) (cs : List (List ℕ)) → length bs ≡ desk_size → cs ≡ first_chunks lun_bytes (length bs / lun_bytes) bs → cs ≡ pieces lun_count lun_bytes bs
+chunks_are bs cs h e =
+    let k : length bs / lun_bytes ≡ lun_count = omega arith in
+    e ∙ ap (λ (n : ℕ). first_chunks lun_bytes n bs) k ∙ first_chunks_pieces lun_bytes lun_count bs

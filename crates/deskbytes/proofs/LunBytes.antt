@@ -1,11 +1,11 @@
 -- One LUN's bytes: twelve, and as the code writes them.
-use mathlib.Core.Path.{◌≡◌, refl, sym}
+use mathlib.Core.Path.{◌≡◌, refl}
 use mathlib.Core.Bool.{Bool, true, false}
-use mathlib.Core.List.{List}
-use Prim.Native.Nat.{ℕ, ◌%◌, ◌<◌}
+use mathlib.Core.List.{[], ◌∷◌}
+use Prim.Native.Nat.{ℕ, ◌/◌, ◌%◌, ◌<◌}
 use native.Mathlib.Omega.{arith}
-use lib.ListN.{length, set}
-use Rattle.lists.specs.Parts.{put, bytes2, bytes4, blanks}
+use lib.ListN.{length}
+use Rattle.lists.specs.Parts.{blanks}
 use Rattle.luns.specs.declared.Lun.{Lun}
 use Rattle.luns.specs.Modes.{mode_number}
 use Rattle.deskbytes.specs.DeskBytes.{lun_bytes, count_of, first_of, packed_lun}
@@ -22,16 +22,13 @@ length-packed_lun u = by u.held refl
     by true e = rw e
     by false e = rw e
 
--- the code's writes over twelve zeros, one after the other
-module _ (u : Lun) (m : ℕ) (z w : List ℕ) (zeroed : z ≡ blanks lun_bytes) (begun : w ≡ put 2 (bytes2 (u.user % 65536)) (set (set z 0 1) 1 m)) where
-  pub length_begun : length w ≡ lun_bytes
-  unfolding put blanks
-  length_begun = rw (begun, zeroed)
-
-  pub packed_held : (n i : ℕ) (r : List ℕ) → u.held ≡ true → m ≡ mode_number u.mode → n ≡ count_of u.place → i ≡ first_of u.place → i < 4294967296
-      → u.offered < 256 → r ≡ put 8 (bytes4 i) (set (set (set w 4 (u.slot % 256)) 5 (n % 256)) 6 u.offered) → r ≡ packed_lun u
-  unfolding packed_lun put blanks
-  packed_held n i r held em en ei fits code e =
-      let k : i % 4294967296 ≡ i = omega arith in
-      let o : u.offered % 256 ≡ u.offered = omega arith in
-      rw (e, begun, zeroed, held, em, en, sym ei, k, o)
+-- the bytes of a held LUN, as the code lists them
+pub packed_held : (u : Lun) (m n a b c d e f : ℕ) → u.held ≡ true → m ≡ mode_number u.mode → n ≡ count_of u.place → u.offered < 256
+    → a ≡ u.user % 65536 / 256 → b ≡ u.user % 65536 % 256
+    → c ≡ first_of u.place % 4294967296 / 65536 / 256 → d ≡ first_of u.place % 4294967296 / 65536 % 256
+    → e ≡ first_of u.place % 4294967296 % 65536 / 256 → f ≡ first_of u.place % 4294967296 % 65536 % 256
+    → (1 ∷ m ∷ a ∷ b ∷ u.slot % 256 ∷ n % 256 ∷ u.offered ∷ 0 ∷ c ∷ d ∷ e ∷ f ∷ []) ≡ packed_lun u
+unfolding packed_lun
+packed_held u m n a b c d e f held em en code ea eb ec ed ee ef =
+    let o : u.offered % 256 ≡ u.offered = omega arith in
+    rw (held, em, en, ea, eb, ec, ed, ee, ef, o)

@@ -60,9 +60,6 @@ module _ (img : List ℕ) (p : Layout) (k : ℕ) (u : InUse img p k) where
     pub stream_long : length (stream img (entry_at img k)) ≡ stream_length (sector (start (entry_at img k)) img)
     stream_long = stream_length_lem img (entry_at img k) u.used c (used_Opens img p k u c)
 
-    pub stream_few : length (stream img (entry_at img k)) ≤ 524288
-    stream_few = stream_short img (entry_at img k) u.used c (used_Opens img p k u c)
-
     pub records_few : length (records img (entry_at img k)) ≤ 524288
     records_few = records_short img (entry_at img k) u.used c (used_Opens img p k u c)
 

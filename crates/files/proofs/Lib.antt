@@ -9,3 +9,4 @@ pub mod SequentialFile
 pub mod SoundFacts
 pub mod SoundSat
 pub mod Vectors
+pub mod slot

@@ -8,20 +8,18 @@ use lib.ListN.{length}
 use lib.Dec.{ltb}
 use borrow.Author.Tests.{ltb-true, lt-ltb, not-true}
 use Rattle.numbers.specs.Numbers.{most_sectors}
-use Rattle.lists.specs.Lists.{range, all, among}
+use Rattle.lists.specs.Lists.{all, among}
 use Rattle.lists.specs.Parts.{sectors}
 use Rattle.lists.proofs.Tests.{or_right, or_second}
 use Rattle.lists.proofs.Lists.{all_ext, all_at, all-among, among-append}
 use Rattle.lists.proofs.Keeps.{among-append_left}
 use Rattle.lists.proofs.AreBytes.{Bytes}
-use Rattle.lists.proofs.Ranges.{range_below}
 use Rattle.volume.specs.Volume.{dirs, sat, system}
 use Rattle.volume.specs.Directory.{entries, entry_at}
-use Rattle.volume.specs.Sat.{marked, owns, is_free, lowest_run}
+use Rattle.volume.specs.Sat.{marked, owns, is_free}
 use Rattle.volume.proofs.Bits.{length-sat_of, marked-sat_of}
 use Rattle.volume.proofs.BitsSet.{sat_numbers}
 use Rattle.volume.proofs.SatChanged.{Bytes-sat_of}
-use Rattle.volume.proofs.RunFound.{run_fits, run_free}
 use Rattle.volume.proofs.Slots.{length-entries}
 use Rattle.ownership.specs.Blocks.{placed}
 use Rattle.ownership.specs.Owners.{owned, all_owned}
@@ -69,7 +67,3 @@ module _ (v : List ℕ) (F : Facts v) where
     frees_not_slot i h =
         clear_by ss (owned v (entry_at v i)) (λ u m.
         clear_at ss (all_owned v) u (clear_flip (all_owned v) ss frees_unowned) (among-append u (system v) _ ∙ or_second _ _ (owned_member v F i u h m)))
-
-  -- as are the sectors of the run that the search finds
-  pub run_unowned : (n : ℕ) → lowest_run n v < sectors v → clear (all_owned v) (range (lowest_run n v) n) ≡ true
-  run_unowned n h = frees_unowned (range (lowest_run n v) n) (range_below (sectors v) (lowest_run n v) n (run_fits n v h)) (run_free n v h)

@@ -9,17 +9,15 @@ ghost use Rattle.files.specs.Code.Room.{Room};
 use lists::parts::{sector_of, zero_run};
 use volume::directory::put_entry;
 use volume::locate::Layout;
-use volume::sat::mark_in;
+use volume::sat::{Mark, set_run_in};
 use volume::search::lowest_run;
 
 // The sectors that a new file takes: its own, or one as the access block.
+#[tactic(auto, using(std::proofs::lemmas::Bool::Decides::nat_tests), unfolding(crate::specs::Changes::taken))]
 fn taken(kind: usize, size: usize) -> usize
     ensures { result ≡ taken kind size }
 {
-    if kind == 0 {
-        return size;
-    }
-    1
+    if kind == 0 { size } else { 1 }
 }
 
 /// The lowest start with the wanted sectors all free, or T.
@@ -28,11 +26,10 @@ pub fn lowest_start(img: &[u8], p: Layout, kind: usize, size: usize) -> usize
     ensures { result ≡ lowest_run (taken kind size) img.now }
 {
     let n = taken(kind, size);
-    let t = p.t;
-    let sat = p.sat;
-    lowest_run(sector_of(img, sat), t, n)
+    lowest_run(sector_of(img, p.sat), p.t, n)
 }
 
+// Stays: the kind is the number that the entry has for it, as callers are handed it.
 /// Allocates a file of this kind, size, record length and read-protect code in slot at, from sector s on.
 pub fn allocate(
     img: &mut [u8],
@@ -50,7 +47,6 @@ pub fn allocate(
 {
     let n = taken(kind, size);
     zero_run(img, s, n);
-    let sat = p.sat;
-    mark_in(img, sat, s, n);
+    set_run_in(img, p.sat, s, n, Mark::Used);
     put_entry(img, p, at, desc, kind, read_code, len, s, size);
 }

@@ -5,21 +5,20 @@ ghost use Rattle.numbers.specs.Numbers.{most_sectors};
 ghost use Rattle.volume.specs.Directory.{entry_at};
 ghost use Rattle.files.specs.Changes.{longer, needed, new_pairs, lengthened, appended};
 ghost use Rattle.files.specs.Code.Growing.{Adds, Grows, grown_with, Taking, RecordFits, Takes};
-ghost use Rattle.lists.specs.Parts.{over, in_sectors, sector, put_sector};
+ghost use Rattle.lists.specs.Parts.{in_sectors, sector, put_sector};
 ghost use Rattle.volume.specs.Sat.{free, lowest};
 ghost use Rattle.volume.specs.Code.Located.{Located};
 ghost use Rattle.ownership.specs.Blocks.{pairs, extended_by, block_of, sectors_of};
 ghost use Rattle.records.specs.Records.{encoded};
 ghost use Rattle.records.specs.Code.Mapped.{written_at};
 
-use crate::map::{load_map, stream_end};
-use crate::slot::{record_length, records_in, start_of};
+use crate::map::{map_of, stream_end};
 use crate::taking::{extend_all, lowest_free, mark_all, segments_with, zero_all};
 use lists::parts::sector_of;
 use numbers::{MOST_NEW, MOST_SECTORS};
 use ownership::blocks::{set_totals, total};
 use records::encoding::{encoded_length, write_record};
-use volume::directory::put_count;
+use volume::directory::{entry_of, put_count, record_count, record_length, start};
 use volume::locate::Layout;
 
 // How long the stream of the file in slot k is with the record r after it.
@@ -27,8 +26,9 @@ fn longer_length(img: &[u8], p: Layout, k: usize, r: &[u8]) -> usize
     requires { Adds img.now p k r.now }
     ensures { result ≡ length (longer img.now (entry_at img.now k) r.now) }
 {
-    let end = stream_end(img, start_of(img, p, k));
-    end + encoded_length(record_length(img, p, k), r)
+    let e = entry_of(img, p, k);
+    let end = stream_end(img, start(e));
+    end + encoded_length(record_length(e), r)
 }
 
 /// How many sectors the file in slot k needs beyond its own for the record r after its stream.
@@ -37,18 +37,18 @@ pub fn needed_sectors(img: &[u8], p: Layout, k: usize, r: &[u8]) -> usize
     ensures { result ≡ needed img.now (entry_at img.now k) r.now }
 {
     let n = longer_length(img, p, k, r);
-    let f = sector_of(img, start_of(img, p, k));
-    (n + 255) / 256 - total(f)
+    let f = sector_of(img, start(entry_of(img, p, k)));
+    n.div_ceil(256) - total(f)
 }
 
-// The n lowest free sectors of the volume, at the front of `out`.
-fn find_lowest(img: &[u8], p: Layout, n: usize, out: &mut [u16])
-    requires { Located img.now p × (n ≤ free img.now) × (n ≤ length out.old) }
-    ensures { out.new ≡ over (lowest n img.now) out.old }
+// Stays: a room lent by the caller, since there is no heap here; `MOST_NEW` is the most that one record can need.
+// The n lowest free sectors of the volume, as the front of a room that the caller lends.
+fn find_lowest<'a>(img: &[u8], p: Layout, n: usize, room: &'a mut [u16]) -> &'a [u16]
+    requires { Located img.now p × (n ≤ free img.now) × (n ≤ length room.old) }
+    ensures { result.now ≡ lowest n img.now }
 {
-    let t = p.t;
-    let sat = p.sat;
-    lowest_free(sector_of(img, sat), t, n, out);
+    lowest_free(sector_of(img, p.sat), p.t, n, room);
+    &room[..n]
 }
 
 /// How many segments the file in slot k has with the record r after its stream.
@@ -57,9 +57,9 @@ pub fn segments_after(img: &[u8], p: Layout, k: usize, r: &[u8]) -> usize
     ensures { result ≡ length (new_pairs img.now (entry_at img.now k) r.now) }
 {
     let n = needed_sectors(img, p, k, r);
-    let mut fresh = [0u16; MOST_NEW];
-    find_lowest(img, p, n, &mut fresh);
-    segments_with(sector_of(img, start_of(img, p, k)), &fresh[..n])
+    let mut room = [0u16; MOST_NEW];
+    let fresh = find_lowest(img, p, n, &mut room);
+    segments_with(sector_of(img, start(entry_of(img, p, k))), fresh)
 }
 
 // The access block f with these sectors more, for a stream of e bytes.
@@ -68,7 +68,7 @@ fn grow(f: &mut [u8], ss: &[u16], e: usize)
     ensures { f.new ≡ block_of (extended_by (pairs f.old) ss.now) (in_sectors e) e }
 {
     extend_all(f, ss);
-    set_totals(f, (e + 255) / 256, e);
+    set_totals(f, e.div_ceil(256), e);
 }
 
 fn grow_in(img: &mut [u8], s: usize, ss: &[u16], e: usize)
@@ -76,9 +76,8 @@ fn grow_in(img: &mut [u8], s: usize, ss: &[u16], e: usize)
     ensures { img.new ≡ put_sector s
         (block_of (extended_by (pairs (sector s img.old)) ss.now) (in_sectors e) e) img.old }
 {
-    let at = 256 * s;
-    let end = at + 256;
-    grow(&mut img[at..end], ss, e);
+    // Stays: the part is lent here, since `at_sector` wants a closure that takes any sector, and `grow` takes a sound block alone.
+    grow(&mut img[256 * s..256 * s + 256], ss, e);
 }
 
 // The new sectors are listed in the access block in sector s, marked in the table, and filled with zeros.
@@ -97,9 +96,9 @@ fn write_last(img: &mut [u8], s: usize, e: usize, l: usize, r: &[u8])
     ensures { img.new ≡ written_at img.old (sectors_of (sector s img.old)) e
         (encoded l r.now) }
 {
-    let mut map = [0u16; MOST_SECTORS];
-    let n = load_map(img, s, &mut map);
-    write_record(img, &map[..n], e, l, r);
+    let mut room = [0u16; MOST_SECTORS];
+    let map = map_of(img, s, &mut room);
+    write_record(img, map, e, l, r);
 }
 
 // The sequential file in slot k with the record r after its stream. Its entry stays.
@@ -109,13 +108,13 @@ fn lengthen(img: &mut [u8], p: Layout, k: usize, r: &[u8])
 {
     let n = needed_sectors(img, p, k, r);
     let e = longer_length(img, p, k, r);
-    let s = start_of(img, p, k);
-    let l = record_length(img, p, k);
+    let entry = entry_of(img, p, k);
+    let s = start(entry);
+    let l = record_length(entry);
     let end = stream_end(img, s);
-    let mut fresh = [0u16; MOST_NEW];
-    find_lowest(img, p, n, &mut fresh);
-    let sat = p.sat;
-    take_sectors(img, sat, s, e, &fresh[..n]);
+    let mut room = [0u16; MOST_NEW];
+    let fresh = find_lowest(img, p, n, &mut room);
+    take_sectors(img, p.sat, s, e, fresh);
     write_last(img, s, end, l, r);
 }
 
@@ -124,7 +123,7 @@ pub fn append(img: &mut [u8], p: Layout, k: usize, r: &[u8])
     requires { Takes img.old p k r.now }
     ensures { img.new ≡ appended k r.now img.old }
 {
-    let n = records_in(img, p, k);
+    let n = record_count(entry_of(img, p, k));
     lengthen(img, p, k, r);
     put_count(img, p, k, n + 1);
 }

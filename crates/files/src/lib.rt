@@ -11,5 +11,4 @@ pub mod extent;
 pub mod map;
 pub mod replace;
 pub mod rights;
-pub mod slot;
 pub mod taking;

@@ -7,17 +7,17 @@ ghost use Rattle.ownership.specs.Blocks.{total, sectors_of, block_sound, stream_
 ghost use Rattle.files.specs.Code.Opens.{Opens};
 
 use lists::parts::sector_of;
-use ownership::blocks::{seg_length, seg_start, segments, stream_length};
+use numbers::MOST_SECTORS;
+use ownership::blocks::{Segment, pairs, stream_length};
 
 // The n sectors from s on, at place `at` of the map.
 fn fill_run(map: &mut [u16], at: usize, s: usize, n: usize)
     requires { (at + n ≤ length map.old) × (s + n ≤ 65536) }
     ensures { map.new ≡ put at (range s n) map.old }
 {
-    let mut i = 0;
-    while i < n {
+    // Stays: by index, since no law tells what a list holds after a walk of `iter_mut` over a part of it.
+    for i in 0..n {
         map[at + i] = (s + i) as u16;
-        i += 1;
     }
 }
 
@@ -27,26 +27,32 @@ pub fn fill_map(f: &[u8], map: &mut [u16]) -> usize
     ensures { (result ≡ length (sectors_of f.now))
         × (map.new ≡ over (sectors_of f.now) map.old) }
 {
-    let n = segments(f);
     let mut at = 0;
-    let mut k = 0;
-    while k < n {
-        let s = seg_start(f, k);
-        let len = seg_length(f, k);
-        fill_run(map, at, s, len);
-        at += len;
-        k += 1;
+    for pair in pairs(f) {
+        let Segment { start, length } = Segment::of(pair);
+        fill_run(map, at, start, length);
+        at += length;
     }
     at
 }
 
-/// The same of the access block in sector s, into a map that holds as many as a volume has.
-pub fn load_map(img: &[u8], s: usize, map: &mut [u16]) -> usize
+// The same of the access block in sector s, into a map that holds as many as a volume has.
+fn load_map(img: &[u8], s: usize, map: &mut [u16]) -> usize
     requires { Opens img.now s × (most_sectors ≤ length map.old) }
     ensures { (result ≡ length (sectors_of (sector s img.now)))
         × (map.new ≡ over (sectors_of (sector s img.now)) map.old) }
 {
     fill_map(sector_of(img, s), map)
+}
+
+// Stays: a room of the most that there can be, lent by the caller, since there is no heap here.
+/// The logical sectors of the access block in sector s, as the front of a room that the caller lends: a map is too large to be handed on by value.
+pub fn map_of<'a>(img: &[u8], s: usize, room: &'a mut [u16; MOST_SECTORS]) -> &'a [u16]
+    requires { Opens img.now s }
+    ensures { result.now ≡ sectors_of (sector s img.now) }
+{
+    let n = load_map(img, s, room);
+    &room[..n]
 }
 
 /// The stream length E of the access block in sector s.

@@ -10,20 +10,17 @@ ghost use Rattle.files.specs.Code.Slots.{InUse};
 ghost use Rattle.files.specs.Code.Outcomes.{replaced_of, replaced_in};
 
 use crate::extent::record_of;
-use crate::map::load_map;
-use crate::slot::start_of;
-use lists::parts::copy_in;
+use crate::map::map_of;
 use numbers::MOST_SECTORS;
 use records::chunks::write_stream;
-use records::record::Spot;
+use volume::directory::{entry_of, start};
 use volume::locate::Layout;
 
-/// What came of replacing a record: there is none, or it has another length.
-#[derive(Clone, Copy)]
-pub enum Replaced {
-    Done,
-    Past,
-    Other,
+/// Why a record is not replaced: there is none of that number, or it has another length.
+#[derive(Clone, Copy, Debug, PartialEq, Eq)]
+pub enum ReplaceError {
+    PastEnd,
+    OtherLength,
 }
 
 // Into the stream of the access block in sector s.
@@ -32,27 +29,31 @@ fn write_at(img: &mut [u8], s: usize, from: usize, src: &[u8])
         × (from + length src.now ≤ stream_length (sector s img.old)) }
     ensures { img.new ≡ rewritten_at img.old s from src.now }
 {
-    let mut map = [0u16; MOST_SECTORS];
-    let n = load_map(img, s, &mut map);
-    write_stream(img, &map[..n], from, src);
+    let mut room = [0u16; MOST_SECTORS];
+    let map = map_of(img, s, &mut room);
+    write_stream(img, map, from, src);
 }
 
 /// Replaces record i of the sequential file in slot k by one as long; else nothing is written.
-pub fn update_record(img: &mut [u8], p: Layout, k: usize, i: usize, src: &[u8]) -> Replaced
+pub fn update_record(
+    img: &mut [u8],
+    p: Layout,
+    k: usize,
+    i: usize,
+    src: &[u8],
+) -> Result<(), ReplaceError>
     requires { InUse img.old p k × (contiguous (entry_at img.old k) ≡ false) }
     ensures { (result ≡ replaced_of img.old (entry_at img.old k) i (length src.now))
         × (img.new ≡ replaced_in (entry_at img.old k) i src.now img.old) }
 {
-    let spot = record_of(img, p, k, i);
-    let Spot::At { from, len } = spot else {
-        return Replaced::Past;
+    let Some(spot) = record_of(img, p, k, i) else {
+        return Err(ReplaceError::PastEnd);
     };
-    if src.len() != len {
-        return Replaced::Other;
+    if src.len() != spot.len {
+        return Err(ReplaceError::OtherLength);
     }
-    let s = start_of(img, p, k);
-    write_at(img, s, from, src);
-    Replaced::Done
+    write_at(img, start(entry_of(img, p, k)), spot.from, src);
+    Ok(())
 }
 
 /// Writes whole sectors of the contiguous file in slot k, from its sector i on.
@@ -61,7 +62,6 @@ pub fn overwrite(img: &mut [u8], p: Layout, k: usize, i: usize, src: &[u8])
         × (256 * i + length src.now ≤ 256 * size (entry_at img.old k)) }
     ensures { img.new ≡ overwritten (entry_at img.old k) i src.now img.old }
 {
-    let at = 256 * (start_of(img, p, k) + i);
-    let end = at + src.len();
-    copy_in(&mut img[at..end], src);
+    let at = 256 * (start(entry_of(img, p, k)) + i);
+    img[at..at + src.len()].copy_from_slice(src);
 }

@@ -7,7 +7,7 @@ use borrow.Author.Tests.{eq-eqb}
 use lib.ListN.{length, set}
 use Rattle.lists.specs.Parts.{put, bytes4}
 use Rattle.lists.proofs.Puts.{put_one}
-use Rattle.desk.specs.declared.Answer.{Answer}
+use Rattle.desk.specs.Answers.{Answer}
 use Rattle.desk.specs.Answers.{status, moved}
 use Rattle.front.specs.Blocks.{block_size, block_after}
 

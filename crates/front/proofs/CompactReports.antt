@@ -16,8 +16,8 @@ use Rattle.compaction.proofs.Quota.{compacted_most}
 use Rattle.work.specs.declared.Refusal.TheVariants.{NotSound, OutOfRange}
 use Rattle.work.specs.Refusals.{ruled}
 use Rattle.deskbytes.specs.DeskBytes.{desk_form}
-use Rattle.desk.specs.declared.Answer.{Answer}
-use Rattle.desk.specs.declared.Answer.TheVariants.{Done, Refused}
+use Rattle.desk.specs.Answers.{Answer}
+use Rattle.std.specs.Prelude.{Ok, Err}
 use Rattle.desk.specs.declared.Report.TheVariants.{Compacted}
 use Rattle.desk.specs.declared.Desk.{Desk}
 use Rattle.desk.specs.declared.Reply.{Reply}
@@ -50,9 +50,9 @@ unfolding step rules compact_rules done closed_up_to given judged ruled
 tally_few s n = go (not (ready s)) (ltb most_quota n) refl
   where
     go : (a b : Bool) → ltb most_quota n ≡ b
-        → tallied (if a then outcome (Refused NotSound) s.image s.desk []
-        else (if b then outcome (Refused OutOfRange) s.image s.desk []
-        else outcome (Done (Compacted (compacted n s.image).moved (compacted n s.image).ending)) (compacted n s.image).image s.desk [])).answer < 65536
+        → tallied (if a then outcome (Err NotSound) s.image s.desk []
+        else (if b then outcome (Err OutOfRange) s.image s.desk []
+        else outcome (Ok (Compacted (compacted n s.image).moved (compacted n s.image).ending)) (compacted n s.image).image s.desk [])).answer < 65536
     go true b e = omega arith
     go false true e = omega arith
     go false false e = omega (arith, ltb-false most_quota n e, compacted_most n s.image)

@@ -12,8 +12,8 @@ use Rattle.lists.proofs.Puts.{put_none}
 use Rattle.work.specs.declared.Refusal.TheVariants.{NotSound, BadRequest, BadLength}
 use Rattle.work.specs.Refusals.{◌if◌, ruled}
 use Rattle.deskbytes.specs.DeskBytes.{desk_form}
-use Rattle.desk.specs.declared.Answer.{Answer}
-use Rattle.desk.specs.declared.Answer.TheVariants.{Refused}
+use Rattle.desk.specs.Answers.{Answer}
+use Rattle.std.specs.Prelude.{Err}
 use Rattle.desk.specs.declared.Desk.{Desk}
 use Rattle.desk.specs.declared.Reply.{Reply}
 use Rattle.desk.specs.Desk.{state}
@@ -21,12 +21,13 @@ use Rattle.desk.specs.Answers.{Outcome, outcome, status}
 use Rattle.desk.specs.Calls.{Call, rewind, step}
 use Rattle.front.specs.declared.areas.Span.{Span}
 use Rattle.front.specs.declared.requests.Order.{Order}
-use Rattle.front.specs.Blocks.{block_size, function_of, lun_in, start_in, end_in, is_transfer, is_rewind, supported, block_after}
+use Rattle.front.specs.Blocks.{block_size, lun_in, start_in, end_in, is_transfer, is_rewind, supported, block_after}
 use Rattle.front.specs.Areas.{names_shared, offset, area, inside, part_named, task_after, shared_after}
 use Rattle.front.specs.Front.{unpacked_desk, desk_after, transfer_asked, asked, front_rules, lent, Ended, ended, turned_back, carried_out, front}
 use Rattle.front.specs.Code.Orders.{order_of, transfer_call}
 use Rattle.front.specs.Code.Passed.{FillsArea, Passed, passed, passed_by, transfer_left, rewind_left, request_left}
 use Rattle.front.specs.Code.Spans.{span_of, part_of}
+use Rattle.front.proofs.TransferCalls.{order_asked}
 
 -- a reply and the areas after it, as a call leaves them
 fills_passed : (r : Reply) (o : Outcome) (x e : ℕ) (img bs t s bs' t' s' : List ℕ) (a : Answer) → FillsArea r o img (span_of x e) t s t' s' → a ≡ r.answer
@@ -45,30 +46,30 @@ shared_none true i s = sym (put_none i s)
 shared_none false i s = refl
 
 module _ (caller : ℕ) (b img bs t s : List ℕ) where
-  pub transfer_refused : inside (start_in b) (end_in b) t s ≡ false → passed (Refused BadLength) img bs t s ≡ transfer_left caller b img bs t s
+  pub transfer_refused : inside (start_in b) (end_in b) t s ≡ false → passed (Err BadLength) img bs t s ≡ transfer_left caller b img bs t s
   unfolding transfer_left ruled
   transfer_refused e = rw e
 
-  pub transfer_carried : (f : ℕ) (d : Desk) (o : Order) (p : Span) (r : Reply) (a : Answer) (img' bs' t' s' : List ℕ)
-      → inside (start_in b) (end_in b) t s ≡ true → f ≡ function_of b → d ≡ unpacked_desk bs → o ≡ order_of b → p ≡ span_of (start_in b) (end_in b)
-      → FillsArea r (step (transfer_call f caller o (part_of p (area p.shared t s))) (state img d)) img' p t s t' s' → a ≡ r.answer
+  pub transfer_carried : (d : Desk) (o : Order) (p : Span) (r : Reply) (a : Answer) (img' bs' t' s' : List ℕ)
+      → inside (start_in b) (end_in b) t s ≡ true → d ≡ unpacked_desk bs → o ≡ order_of b → p ≡ span_of (start_in b) (end_in b)
+      → FillsArea r (step (transfer_call caller o (part_of p (area p.shared t s))) (state img d)) img' p t s t' s' → a ≡ r.answer
       → bs' ≡ desk_after r.answer r.desk bs → passed a img' bs' t' s' ≡ transfer_left caller b img bs t s
-  unfolding transfer_left ruled transfer_asked transfer_call order_of part_named
-  transfer_carried f d o p r a img' bs' t' s' e ef ed eo ep g ea eb =
+  unfolding transfer_left ruled part_named
+  transfer_carried d o p r a img' bs' t' s' e ed eo ep g ea eb =
       rw e
       (fills_passed r _ (start_in b) (end_in b) img' bs t s bs' t' s' a
-      (as-asked f d o p ef ed eo ep g) ea eb)
+      (as-asked d o p ed eo ep g) ea eb)
     where
-      as-asked : (f : ℕ) (d : Desk) (o : Order) (p : Span) → f ≡ function_of b → d ≡ unpacked_desk bs → o ≡ order_of b → p ≡ span_of (start_in b) (end_in b)
-          → FillsArea r (step (transfer_call f caller o (part_of p (area p.shared t s))) (state img d)) img' p t s t' s'
-          → FillsArea r (step (transfer_call (function_of b) caller (order_of b) (part_of (span_of (start_in b) (end_in b)) (area (names_shared (start_in b)) t s)))
+      as-asked : (d : Desk) (o : Order) (p : Span) → d ≡ unpacked_desk bs → o ≡ order_of b → p ≡ span_of (start_in b) (end_in b)
+          → FillsArea r (step (transfer_call caller o (part_of p (area p.shared t s))) (state img d)) img' p t s t' s'
+          → FillsArea r (step (transfer_asked caller b (part_of (span_of (start_in b) (end_in b)) (area (names_shared (start_in b)) t s)))
           (state img (unpacked_desk bs))) img' (span_of (start_in b) (end_in b)) t s t' s'
-      as-asked f d o p ef ed eo ep g =
-          subst (λ (q : Span). FillsArea r (step (transfer_call (function_of b) caller (order_of b) (part_of q (area q.shared t s))) (state img (unpacked_desk bs))) img' q t s t' s')
+      as-asked d o p ed eo ep g =
+          subst (λ (q : Span). FillsArea r (step (transfer_asked caller b (part_of q (area q.shared t s))) (state img (unpacked_desk bs))) img' q t s t' s')
           ep
-          (subst (λ (x : Order). FillsArea r (step (transfer_call (function_of b) caller x (part_of p (area p.shared t s))) (state img (unpacked_desk bs))) img' p t s t' s') eo
-          (subst (λ (x : Desk). FillsArea r (step (transfer_call (function_of b) caller o (part_of p (area p.shared t s))) (state img x)) img' p t s t' s') ed
-          (subst (λ (x : ℕ). FillsArea r (step (transfer_call x caller o (part_of p (area p.shared t s))) (state img d)) img' p t s t' s') ef g)))
+          (subst (λ (c : Call). FillsArea r (step c (state img (unpacked_desk bs))) img' p t s t' s') (order_asked caller b (part_of p (area p.shared t s)))
+          (subst (λ (x : Order). FillsArea r (step (transfer_call caller x (part_of p (area p.shared t s))) (state img (unpacked_desk bs))) img' p t s t' s') eo
+          (subst (λ (x : Desk). FillsArea r (step (transfer_call caller o (part_of p (area p.shared t s))) (state img x)) img' p t s t' s') ed g)))
 
   pub rewound : (l : ℕ) (d : Desk) (r : Reply) (a : Answer) (bs' : List ℕ) → l ≡ lun_in b → d ≡ unpacked_desk bs
       → outcome r.answer img r.desk [] ≡ step (rewind caller l) (state img d) → a ≡ r.answer → bs' ≡ desk_after r.answer r.desk bs
@@ -80,11 +81,11 @@ module _ (caller : ℕ) (b img bs t s : List ℕ) where
       (λ i. passed (ea i) img (eb i) (task_none (names_shared (start_in b)) (offset (start_in b)) t i) (shared_none (names_shared (start_in b)) (offset (start_in b)) s i))
       ∙ ap (λ (x : Outcome). passed_by x (start_in b) bs t s) o
 
-  pub request_bad : desk_form bs ≡ false → passed (Refused NotSound) img bs t s ≡ request_left caller b img bs t s
+  pub request_bad : desk_form bs ≡ false → passed (Err NotSound) img bs t s ≡ request_left caller b img bs t s
   unfolding request_left ruled
   request_bad e = rw e
 
-  pub request_code : desk_form bs ≡ true → is_transfer b ≡ false → is_rewind b ≡ false → passed (Refused BadRequest) img bs t s ≡ request_left caller b img bs t s
+  pub request_code : desk_form bs ≡ true → is_transfer b ≡ false → is_rewind b ≡ false → passed (Err BadRequest) img bs t s ≡ request_left caller b img bs t s
   unfolding request_left ruled supported ◌or◌
   request_code e et er = rw (e, et, er)
 
@@ -103,10 +104,10 @@ Ended-by b p = ended (status p.answer) (lent (block_after p.answer b) p.image p.
 
 -- the front's rules one after the other, and a request's: for any four tests
 same_rules : (D T R I : Bool) (o q : Outcome) (b img bs t s : List ℕ) (x : ℕ)
-    → ruled (BadLength if false ∷ NotSound if not D ∷ BadRequest if not (T or R) ∷ BadLength if (T and not I) ∷ []) (λ why. turned_back (Refused why) (lent b img bs t s))
+    → ruled (BadLength if false ∷ NotSound if not D ∷ BadRequest if not (T or R) ∷ BadLength if (T and not I) ∷ []) (λ why. turned_back (Err why) (lent b img bs t s))
     (if T then Ended-by b (passed_by o x bs t s) else Ended-by b (passed_by q x bs t s))
-    ≡ Ended-by b (ruled (NotSound if not D ∷ BadRequest if not (T or R) ∷ []) (λ why. passed (Refused why) img bs t s)
-    (if T then ruled (BadLength if not I ∷ []) (λ why. passed (Refused why) img bs t s) (passed_by o x bs t s) else passed_by q x bs t s))
+    ≡ Ended-by b (ruled (NotSound if not D ∷ BadRequest if not (T or R) ∷ []) (λ why. passed (Err why) img bs t s)
+    (if T then ruled (BadLength if not I ∷ []) (λ why. passed (Err why) img bs t s) (passed_by o x bs t s) else passed_by q x bs t s))
 unfolding ruled ◌or◌ ◌and◌ Ended-by turned_back
 same_rules false T R I o q b img bs t s x = refl
 same_rules true true R true o q b img bs t s x = refl
@@ -122,7 +123,7 @@ chosen_step true A B b img bs t s x e = ap (λ (y : ℕ). Ended-by b (passed_by 
 chosen_step false A B b img bs t s x e = ap (λ (y : ℕ). Ended-by b (passed_by (step B (state img (unpacked_desk bs))) y bs t s)) (sym e)
 
 module _ (caller : ℕ) (b img bs t s : List ℕ) where
-  pub front_short : (length b ≡ block_size → ⊥) → ended (status (Refused BadLength)) (lent b img bs t s) ≡ front caller (lent b img bs t s)
+  pub front_short : (length b ≡ block_size → ⊥) → ended (status (Err BadLength)) (lent b img bs t s) ≡ front caller (lent b img bs t s)
   unfolding front front_rules ruled turned_back block_after
   front_short n = rw (ne_eqb (length b) block_size n)
 
@@ -134,7 +135,7 @@ module _ (caller : ℕ) (b img bs t s : List ℕ) where
       (λ (x : Ended). ruled
       (BadLength if false ∷ NotSound if not (desk_form bs) ∷ BadRequest if not (is_transfer b or is_rewind b) ∷ BadLength if (is_transfer b and not (inside (start_in b) (end_in b) t s))
       ∷ [])
-      (λ why. turned_back (Refused why) (lent b img bs t s)) x)
+      (λ why. turned_back (Err why) (lent b img bs t s)) x)
       (chosen_step (is_transfer b) _ _ b img bs t s (start_in b) refl)
       ∙ same_rules (desk_form bs) (is_transfer b) (is_rewind b) (inside (start_in b) (end_in b) t s) _ _ b img bs t s (start_in b))
 

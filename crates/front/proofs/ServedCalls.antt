@@ -17,8 +17,8 @@ use Rattle.work.specs.declared.Refusal.TheVariants.{NotSound}
 use Rattle.work.specs.Refusals.{Rule, ruled}
 use Rattle.deskbytes.specs.DeskBytes.{desk_size, desk_form}
 use Rattle.deskbytes.proofs.UnpackedDesk.{unpacked_back}
-use Rattle.desk.specs.declared.Answer.{Answer}
-use Rattle.desk.specs.declared.Answer.TheVariants.{Refused}
+use Rattle.desk.specs.Answers.{Answer}
+use Rattle.std.specs.Prelude.{Err}
 use Rattle.desk.specs.declared.Desk.{Desk}
 use Rattle.desk.specs.declared.Reply.{Reply}
 use Rattle.desk.specs.Desk.{State, state, empty_desk}
@@ -34,7 +34,7 @@ Reply-served r o n a img buf bs bs' q ea en eb =
     (λ i. served ((en ∙ ap status ea) i) img (eb i)) ∙ ap (λ (x : Outcome). served_by x bs) q
 
 module _ (c : Call) (img bs : List ℕ) where
-  pub serve_bad : (n : ℕ) → desk_form bs ≡ false → n ≡ status (Refused NotSound) → served n img bs ≡ serve c img bs
+  pub serve_bad : (n : ℕ) → desk_form bs ≡ false → n ≡ status (Err NotSound) → served n img bs ≡ serve c img bs
   unfolding serve ruled
   serve_bad n e en = rw e (ap (λ (m : ℕ). served m img bs) en)
 
@@ -45,8 +45,24 @@ module _ (c : Call) (img bs : List ℕ) where
   serve_done r n a d img' buf bs' e ed q ea en eb =
       rw e (Reply-served r _ n a img' buf bs bs' (q ∙ ap (λ (x : Desk). step c (state img x)) ed) ea en eb)
 
+  -- of a call that leaves the image, made on the desk that the bytes stand for
+  pub served_call : (P : Reply → Type 0) (n : ℕ) (a : Answer) (bs' : List ℕ)
+      → ((r : Reply) → P r → outcome r.answer img r.desk [] ≡ step c (state img (unpacked_desk bs)))
+      → (desk_form bs ≡ false → (a ≡ Err NotSound) × (bs' ≡ bs))
+      → (desk_form bs ≡ true → (r : Reply) × P r × (a ≡ r.answer) × (bs' ≡ desk_after r.answer r.desk bs))
+      → n ≡ status a → served n img bs' ≡ serve c img bs
+  served_call P n a bs' means bad good en = go (desk_form bs) refl
+    where
+      go : (b : Bool) → desk_form bs ≡ b → served n img bs' ≡ serve c img bs
+      go true e =
+          let g = good e in
+          serve_done g.0 n a (unpacked_desk bs) img [] bs' e refl (means g.0 g.1) g.2 en g.3
+      go false e =
+          let x = bad e in
+          ap (λ (b : List ℕ). served n img b) x.1 ∙ serve_bad n e (en ∙ ap status x.0)
+
 module _ (id : List ℕ) (dirs : ℕ) (img bs : List ℕ) where
-  pub format_bad : (n : ℕ) → (length bs ≡ desk_size → ⊥) → n ≡ status (Refused NotSound) → served n img bs ≡ serve_format id dirs img bs
+  pub format_bad : (n : ℕ) → (length bs ≡ desk_size → ⊥) → n ≡ status (Err NotSound) → served n img bs ≡ serve_format id dirs img bs
   unfolding serve_format ruled
   format_bad n e en = rw (ne_eqb (length bs) desk_size e) (ap (λ (m : ℕ). served m img bs) en)
 

@@ -2,7 +2,7 @@
 use Rattle.std.specs.Prelude.{if◌then◌else◌, Bool, not, List, [], ◌∷◌, ℕ, ◌/◌, ◌%◌, ◌^◌, eqb, length}
 use Rattle.lists.specs.Lists.{◌and◌, ◌or◌, all}
 use Rattle.lists.specs.Parts.{byte, word, long, bytes4, put}
-use Rattle.desk.specs.declared.Answer.{Answer}
+use Rattle.desk.specs.Answers.{Answer}
 use Rattle.desk.specs.Answers.{status, moved}
 
 -- RULES, The request block: 28 bytes

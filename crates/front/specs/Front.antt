@@ -7,8 +7,8 @@ use Rattle.compaction.specs.declared.Ending.TheVariants.{Settled, QuotaUsed, Seg
 use Rattle.work.specs.declared.Refusal.TheVariants.{NotSound, BadRequest, BadLength}
 use Rattle.work.specs.Refusals.{Rule, ◌if◌, ruled}
 use Rattle.deskbytes.specs.DeskBytes.{desk_size, desk_form, packed_luns, unpacked_luns}
-use Rattle.desk.specs.declared.Answer.{Answer}
-use Rattle.desk.specs.declared.Answer.TheVariants.{Done, Refused}
+use Rattle.desk.specs.Answers.{Answer}
+use Rattle.std.specs.Prelude.{Ok, Err}
 use Rattle.desk.specs.declared.Report.TheVariants.{Moved, Checked, Compacted}
 use Rattle.desk.specs.declared.Desk.{Desk}
 use Rattle.desk.specs.Desk.{state, empty_desk}
@@ -44,13 +44,13 @@ served_by o bs = served (status o.answer) o.image (desk_after o.answer o.desk bs
 -- RULES, The front: bad desk bytes are $6F; then the call's own order
 unfoldable pub serve : Call → List ℕ → List ℕ → Served
 serve c img bs =
-    ruled (NotSound if not (desk_form bs) ∷ []) (λ why. served (status (Refused why)) img bs)
+    ruled (NotSound if not (desk_form bs) ∷ []) (λ why. served (status (Err why)) img bs)
     (served_by (step c (state img (unpacked_desk bs))) bs)
 
 -- RULES, The front: format takes any 192 desk bytes; another length is $6F
 unfoldable pub serve_format : List ℕ → ℕ → List ℕ → List ℕ → Served
 serve_format id n img bs =
-    ruled (NotSound if not (eqb (length bs) desk_size) ∷ []) (λ why. served (status (Refused why)) img bs)
+    ruled (NotSound if not (eqb (length bs) desk_size) ∷ []) (λ why. served (status (Err why)) img bs)
     (served_by (step (format id n) (state img empty_desk)) bs)
 
 -- RULES, The front: check looks at no desk. Its number is the free sectors, and $10000 more if the volume is sound
@@ -58,10 +58,10 @@ abbrev pub sound_bit : ℕ
 sound_bit = 0x10000
 
 abbrev pub verdict : Answer → ℕ
-verdict (Done (Moved n)) = 0
-verdict (Done (Checked s f)) = (if s then sound_bit else 0) + f
-verdict (Done (Compacted n why)) = 0
-verdict (Refused why) = 0
+verdict (Ok (Moved n)) = 0
+verdict (Ok (Checked s f)) = (if s then sound_bit else 0) + f
+verdict (Ok (Compacted n why)) = 0
+verdict (Err why) = 0
 
 unfoldable pub serve_check : List ℕ → ℕ
 serve_check img = verdict (step check (state img empty_desk)).answer
@@ -84,10 +84,10 @@ abbrev pub report_bytes : ℕ → Ending → List ℕ
 report_bytes n why = ending_number why ∷ 0 ∷ bytes2 n
 
 abbrev pub reported : Answer → List ℕ → List ℕ
-reported (Done (Moved n)) rep = rep
-reported (Done (Checked s f)) rep = rep
-reported (Done (Compacted n why)) rep = if eqb (length rep) report_size then report_bytes n why else rep
-reported (Refused why) rep = rep
+reported (Ok (Moved n)) rep = rep
+reported (Ok (Checked s f)) rep = rep
+reported (Ok (Compacted n why)) rep = if eqb (length rep) report_size then report_bytes n why else rep
+reported (Err why) rep = rep
 
 unfoldable pub report_after : ℕ → List ℕ → List ℕ → List ℕ → List ℕ
 report_after n img bs rep =
@@ -149,7 +149,7 @@ carried_out o l =
 -- The front: the first of its rules that applies, or the call
 unfoldable pub front : ℕ → Lent → Ended
 front caller l =
-    ruled (front_rules l) (λ why. turned_back (Refused why) l)
+    ruled (front_rules l) (λ why. turned_back (Err why) l)
     (carried_out (step (asked caller l) (state l.image (unpacked_desk l.desk))) l)
 
 unfoldable pub front_open : Unit {0}

@@ -17,24 +17,21 @@ fn names_shared(address: usize) -> bool
 fn size(second: bool, task: &[u8], shared: &[u8]) -> usize
     ensures { result ≡ length (area second task.now shared.now) }
 {
-    if second {
-        return shared.len();
-    }
-    task.len()
+    if second { shared.len() } else { task.len() }
 }
 
 /// Whether the part from a start to an end address, both included, lies wholly inside the named area.
+#[tactic(auto, using(lists::proofs::Steps::bool_steps), unfolding(crate::specs::Areas::inside))]
 pub(crate) fn inside(start: usize, end: usize, task: &[u8], shared: &[u8]) -> bool
     ensures { result ≡ inside start end task.now shared.now }
 {
-    let named = size(names_shared(start), task, shared);
-    (start / TOP_BIT == end / TOP_BIT)
-        & (start % TOP_BIT <= end % TOP_BIT)
-        & (end % TOP_BIT < named)
+    start / TOP_BIT == end / TOP_BIT
+        && start % TOP_BIT <= end % TOP_BIT
+        && end % TOP_BIT < size(names_shared(start), task, shared)
 }
 
 /// A part of one of the areas: whether it is the shared segment, and the part's bytes from one number up to another.
-#[derive(Clone, Copy)]
+#[derive(Clone, Copy, Debug, PartialEq, Eq)]
 pub struct Span {
     pub shared: bool,
     pub from: usize,
@@ -57,12 +54,10 @@ pub(crate) fn part<'a>(task: &'a [u8], shared: &'a [u8], p: Span) -> &'a [u8]
     requires { Within p task.now shared.now }
     ensures { result.now ≡ part_of p (area p.shared task.now shared.now) }
 {
-    let from = p.from;
-    let to = p.to;
     if p.shared {
-        &shared[from..to]
+        &shared[p.from..p.to]
     } else {
-        &task[from..to]
+        &task[p.from..p.to]
     }
 }
 

@@ -2,15 +2,23 @@
 // to is said in include/twynarvel.h. Each returns its answer's number of the status table; check, which has no other answer than $00, returns its
 // verdict.
 ghost use Rattle.std.specs.Prelude.{◌≡◌, [], eqb, not};
+ghost use Rattle.desk.specs.Answers.{status};
 ghost use Rattle.desk.specs.Calls.{compact, allocate, assign, close, delete};
 ghost use Rattle.front.specs.Front.{served, serve, serve_format, serve_check, serve_bring_up, report_after, lent, ended, front};
 
 use crate::reports::write_report;
 use crate::verdicts::verdict_of;
 use crate::{blocks, desks, requests};
-use desk::Desk;
-use desk::answers::{code_of, status_of};
+use desk::answers::status_of;
+use desk::{Answer, Desk};
 use work::Refusal;
+
+// The number that C is told for an answer.
+fn number(a: Answer) -> u32
+    ensures { result ≡ status a }
+{
+    u32::from(status_of(a))
+}
 
 /// Carries a request block out, for the caller of this number, on the volume of this image: rewind, or a read, write or update whose
 /// buffer is a part of the task's own area or of the shared segment. The answer's number goes to the block's byte 4 and its length to bytes
@@ -27,12 +35,12 @@ pub fn twynarvel_iocb(
     ensures { ended result (lent block.new image.new desk.new task.new shared.new)
         ≡ front caller (lent block.old image.old desk.old task.old shared.old) }
 {
-    if block.len() != blocks::BLOCK_BYTES {
-        return code_of(Refusal::BadLength) as u32;
-    }
-    let a = requests::request(block, image, desk, task, shared, caller);
+    let Some(asked) = block.as_array() else {
+        return number(Err(Refusal::BadLength));
+    };
+    let a = requests::request(asked, image, desk, task, shared, caller);
     blocks::write_answer(block, a);
-    status_of(a) as u32
+    number(a)
 }
 
 /// Makes the whole image an empty volume, and the desk bytes an empty desk. Refuses $6F for another length than 192 of the desk bytes,
@@ -42,30 +50,23 @@ pub fn twynarvel_format(image: &mut [u8], desk: &mut [u8], id: &[u8], dirs: u32)
         ≡ serve_format id.now dirs image.old desk.old }
 {
     if desk.len() != deskbytes::DESK_BYTES {
-        return code_of(Refusal::NotSound) as u32;
+        return number(Err(Refusal::NotSound));
     }
-    let d = Desk::empty();
-    status_of(desks::keep(d.format(image, id, dirs), desk)) as u32
+    number(desks::keep(Desk::empty().format(image, id, dirs), desk))
 }
 
 /// The free sectors of a sound volume and $10000 more; 0 of one that is not sound. Never refuses.
 pub fn twynarvel_check(image: &[u8]) -> u32
     ensures { result ≡ serve_check image.now }
 {
-    let d = Desk::empty();
-    let r = d.check(image);
-    let a = r.answer;
-    verdict_of(a)
+    verdict_of(Desk::empty().check(image).answer)
 }
 
 /// Gives a volume from before there were record counts its counts. Refuses $6F for any other image. It is lent no desk bytes.
 pub fn twynarvel_bring_up(image: &mut [u8]) -> u32
     ensures { served result image.new [] ≡ serve_bring_up image.old [] }
 {
-    let d = Desk::empty();
-    let r = d.bring_up(image);
-    let a = r.answer;
-    status_of(a) as u32
+    number(Desk::empty().bring_up(image).answer)
 }
 
 /// Closes the volume up, by at most `quota` sectors moved. If it is carried out and the report has four bytes, they get why it ended (1
@@ -75,14 +76,13 @@ pub fn twynarvel_compact(image: &mut [u8], desk: &[u8], quota: u32, report: &mut
     ensures { (served result image.new desk.now ≡ serve (compact quota) image.old desk.now)
         × (report.new ≡ report_after quota image.old desk.now report.old) }
 {
-    if !deskbytes::in_form(desk) {
-        return code_of(Refusal::NotSound) as u32;
-    }
-    let d = desks::open(desk);
-    let r = d.compact(image, quota);
-    let a = r.answer;
+    // Stays: no `serve` here and below. The image is changed: of a closure that holds it and is not called its bytes would not be known.
+    let Ok(d) = desks::unpacked(desk) else {
+        return number(Err(Refusal::NotSound));
+    };
+    let a = d.compact(image, quota).answer;
     write_report(a, report);
-    status_of(a) as u32
+    number(a)
 }
 
 /// Makes a file with this read-protect code. Refuses $6F for desk bytes that stand for no desk; then as the call does. The desk bytes stay.
@@ -99,13 +99,11 @@ pub fn twynarvel_allocate(
     ensures { served result image.new desk.now
         ≡ serve (allocate caller desc.now kind size «record» read_code) image.old desk.now }
 {
-    if !deskbytes::in_form(desk) {
-        return code_of(Refusal::NotSound) as u32;
-    }
-    let d = desks::open(desk);
+    let Ok(d) = desks::unpacked(desk) else {
+        return number(Err(Refusal::NotSound));
+    };
     let r = d.allocate(image, caller, desc, kind, size, record, read_code);
-    let a = r.answer;
-    status_of(a) as u32
+    number(r.answer)
 }
 
 /// Gives a free LUN to a file; `at_end` is 0 for its start, and any other number for its end. The LUN keeps the read-protect code
@@ -124,12 +122,9 @@ pub fn twynarvel_assign(
         ≡ serve (assign caller lun desc.now mode (not (eqb at_end 0)) offered) image.now
         desk.old }
 {
-    if !deskbytes::in_form(desk) {
-        return code_of(Refusal::NotSound) as u32;
-    }
-    let d = desks::open(desk);
-    let r = d.assign(image, caller, lun, desc, mode, at_end != 0, offered);
-    status_of(desks::keep(r, desk)) as u32
+    number(desks::serve(desk, |d| {
+        d.assign(image, caller, lun, desc, mode, at_end != 0, offered)
+    }))
 }
 
 /// Frees a LUN. Refuses $6F for desk bytes that stand for no desk; then as the call does.
@@ -137,11 +132,7 @@ pub fn twynarvel_close(image: &[u8], desk: &mut [u8], caller: u32, lun: u32) -> 
     ensures { served result image.now desk.new
         ≡ serve (close caller lun) image.now desk.old }
 {
-    if !deskbytes::in_form(desk) {
-        return code_of(Refusal::NotSound) as u32;
-    }
-    let d = desks::open(desk);
-    status_of(desks::keep(d.close(image, caller, lun), desk)) as u32
+    number(desks::serve(desk, |d| d.close(image, caller, lun)))
 }
 
 /// Deletes a file. Refuses $6F for desk bytes that stand for no desk; then as the call does. The desk bytes stay.
@@ -149,11 +140,8 @@ pub fn twynarvel_delete(image: &mut [u8], desk: &[u8], caller: u32, desc: &[u8])
     ensures { served result image.new desk.now
         ≡ serve (delete caller desc.now) image.old desk.now }
 {
-    if !deskbytes::in_form(desk) {
-        return code_of(Refusal::NotSound) as u32;
-    }
-    let d = desks::open(desk);
-    let r = d.delete(image, caller, desc);
-    let a = r.answer;
-    status_of(a) as u32
+    let Ok(d) = desks::unpacked(desk) else {
+        return number(Err(Refusal::NotSound));
+    };
+    number(d.delete(image, caller, desc).answer)
 }

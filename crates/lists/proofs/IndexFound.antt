@@ -42,13 +42,6 @@ module _ {A : Type 0} (p : A → Bool) where
       by true e = e
       by false e = absurd (omega (arith, none_index xs e))
 
-  pub index-le : (xs : List A) → index p xs ≤ length xs
-  index-le xs = by (some p xs) refl
-    where
-      by : (b : Bool) → some p xs ≡ b → index p xs ≤ length xs
-      by true e = omega (arith, some-index xs e)
-      by false e = omega (arith, none_index xs e)
-
   -- the test passes there, and at none before
   pub index_holds : (xs : List A) (d : A) → index p xs < length xs → p (get_or xs (index p xs) d) ≡ true
   index_holds [] d h = absurd (not-suc-le-zero h)

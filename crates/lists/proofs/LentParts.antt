@@ -1,11 +1,10 @@
 -- A part of an image that was lent, read, and came back written; its bytes and words.
 use mathlib.Core.Path.{◌≡◌, refl, ap, ◌∙◌, sym}
-use mathlib.Core.List.{List, [], ◌∷◌, append_assoc, ◌++◌}
+use mathlib.Core.List.{List, append_assoc, ◌++◌}
 use Prim.Native.Nat.{ℕ, ◌+◌, ◌≤◌, ◌<◌, ◌*◌, ◌-◌, ◌/◌, ◌%◌}
 use native.Mathlib.Omega.{arith}
-use native.Mathlib.Numerals.{add-one}
-use lib.ListN.{length, length-take, length-drop, take, drop, set, length-append, replicate, length-replicate}
-use lib.Seq.{take_all, sets-eq, take_at, drop-append-add, drop-drop, get_or-take, get_or-drop}
+use lib.ListN.{length, length-take, length-drop, take, drop, length-append, replicate, length-replicate}
+use lib.Seq.{take_all, take_at, drop-append-add, drop-drop, get_or-take, get_or-drop}
 use borrow.Rule.Slice.PartMut.{put_mid, mid_len}
 use Rattle.lists.specs.Parts.{byte, part, sector, put, put_sector}
 use Rattle.lists.proofs.Puts.{put_mid_lem}
@@ -48,11 +47,7 @@ pub wrote_by : (f : List ℕ → List ℕ) (s : ℕ) (l b : List ℕ) → b ≡ 
     → put_mid (256 * s) (256 * s + 256 - 256 * s) l b ≡ put_sector s (f (sector s l)) l
 wrote_by f s l b q n = wrote_sector s l b (f (sector s l)) (q ∙ ap f (lent_sector s l)) n
 
--- two bytes stored one after the other, and two writes side by side
-pub put_two : (i x y : ℕ) (l : List ℕ) → i + 2 ≤ length l → set (set l i x) (i + 1) y ≡ put i (x ∷ y ∷ []) l
-unfolding put
-put_two i x y l h = rw add-one (sets-eq (x ∷ y ∷ []) l i h ∙ append_assoc (take i l) (x ∷ y ∷ []) (drop (i + 2) l))
-
+-- two writes side by side
 pub put_next : (i : ℕ) (x y l : List ℕ) → i + (length x + length y) ≤ length l → put (i + length x) y (put i x l) ≡ put i (x ++ y) l
 unfolding put
 put_next i x y l h =

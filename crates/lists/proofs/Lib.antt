@@ -3,9 +3,11 @@ pub mod AreBytes
 pub mod Blanks
 pub mod Bools
 pub mod ByteLists
+pub mod Equal
 pub mod FirstFound
 pub mod Fronts
 pub mod IndexFound
+pub mod Iterators
 pub mod JoinedLists
 pub mod Keeps
 pub mod KeptCount
@@ -20,6 +22,8 @@ pub mod Puts
 pub mod RangeParts
 pub mod Ranges
 pub mod Replaced
+pub mod Sectors
+pub mod Steps
 pub mod Tests
 pub mod TopmostFound
 pub mod Walks

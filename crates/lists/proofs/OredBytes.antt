@@ -1,6 +1,6 @@
 -- Numbers put together by the code's `|`: the result is 0 where every one is.
-use mathlib.Core.Path.{◌≡◌, sym}
-use mathlib.Core.Bool.{true}
+use mathlib.Core.Path.{◌≡◌, refl, sym}
+use mathlib.Core.Bool.{Bool, true}
 use mathlib.Core.List.{List}
 use Prim.Native.Nat.{ℕ, suc, ◌+◌, ◌<◌, ◌≤◌}
 use native.Mathlib.Numerals.{add-one}
@@ -15,6 +15,10 @@ use Rattle.lists.specs.Parts.{zeros}
 use Rattle.lists.proofs.Bools.{agree, and_assoc, and-true}
 use Rattle.lists.proofs.Tests.{and_left, and_right, both_true}
 use Rattle.lists.proofs.Walks.{all_end}
+
+pub true-and : (b : Bool) → true and b ≡ b
+unfolding ◌and◌
+true-and b = refl
 
 pub or_zero : (a b : ℕ) → eqb (bit_or a b) 0 ≡ eqb a 0 and eqb b 0
 or_zero a b = agree _ _ apart together
@@ -37,3 +41,6 @@ or_more a s i h = rw (add-one, drop-cons s i 0 h, or_zero a (get_or s i 0)) (sym
 
 pub or_end : (a : ℕ) (s : List ℕ) (i : ℕ) → length s ≤ i → eqb a 0 and zeros (drop i s) ≡ eqb a 0
 or_end a s i h = rw (all_end (λ x. eqb x 0) s i h) (and-true (eqb a 0))
+
+-- for the loop of `all_zero`
+pub ruleset ored_rules = (true-and, or_more, or_end)

@@ -7,8 +7,8 @@ use native.Mathlib.Omega.{arith}
 use native.Mathlib.Numerals.{add-one}
 use native.Mathlib.Decide.{dec_lt}
 use native.Mathlib.Nat.{add-zero}
-use lib.ListN.{length, get_or, take, drop, length-drop}
-use lib.Seq.{drop-drop, take-suc, get_or-drop}
+use lib.ListN.{length, get_or, drop}
+use lib.Seq.{drop-drop, get_or-drop}
 use lib.Dec.{ltb}
 use borrow.Author.Tests.{lt-ltb}
 use Rattle.lists.specs.Lists.{range, ◌and◌, first, all, kept}
@@ -142,16 +142,10 @@ module _ (p : ℕ → Bool) where
   pub kept_none : (i e : ℕ) → e ≤ first p i (e - i) → kept p (range i (e - i)) ≡ []
   kept_none i e h = kept_lost e i e (omega arith) h
 
--- of a list whose part from k on is known: the element k, the part after it, and the first k + 1
+-- of a list whose part from k on is known: the element k, and the part after it
 module _ (l : List ℕ) (k s : ℕ) (r : List ℕ) (e : drop k l ≡ s ∷ r) where
-  pub drop_some : k < length l
-  drop_some = omega (arith, simp length-drop at (ap length e))
-
   pub drop_get_or : get_or l k 0 ≡ s
   drop_get_or = rw add-zero at (sym (get_or-drop k l 0 0) ∙ ap (λ (q : List ℕ). get_or q 0 0) e)
 
   pub drop_rest : drop (k + 1) l ≡ r
   drop_rest = sym (drop-drop 1 k l) ∙ ap (drop 1) e
-
-  pub drop_take : take (k + 1) l ≡ take k l ++ (s ∷ [])
-  drop_take = rw (add-one k, take-suc l k 0 drop_some, drop_get_or)

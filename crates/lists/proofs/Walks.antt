@@ -1,15 +1,12 @@
--- A loop that goes up a list: tests of its elements, two lists compared, one filled.
+-- A loop that goes up a list: tests of its elements.
 use mathlib.Core.Path.{◌≡◌, refl, ap, ◌∙◌}
 use mathlib.Core.Bool.{Bool, true, false}
-use mathlib.Core.List.{List, [], ◌∷◌, ◌++◌, append-nil}
-use Prim.Native.Nat.{ℕ, ◌+◌, ◌<◌, ◌≤◌, suc}
+use mathlib.Core.List.{List, [], ◌∷◌, append-nil}
+use Prim.Native.Nat.{ℕ, ◌+◌, ◌<◌, ◌≤◌}
 use native.Mathlib.Numerals.{add-one}
-use native.Mathlib.Omega.{arith}
-use lib.ListN.{length, get_or, drop, drop_of_length-le, replicate}
-use lib.Seq.{drop-cons, drop-length}
-use lib.Dec.{eqb}
-use borrow.Author.Tests.{eq-eqb, ne_eqb}
-use Rattle.lists.specs.Lists.{◌and◌, all, same}
+use lib.ListN.{length, get_or, drop, drop_of_length-le}
+use lib.Seq.{drop-cons}
+use Rattle.lists.specs.Lists.{◌and◌, all}
 use Rattle.lists.specs.Parts.{over}
 use Rattle.lists.proofs.Bools.{and-false}
 
@@ -27,31 +24,7 @@ pub all_end : {A : Type 0} (p : A → Bool) (xs : List A) (i : ℕ) → length x
 unfolding all
 all_end p xs i h = rw (drop_of_length-le xs h)
 
--- two lists, compared from the front
-pub same_long : (a b : List ℕ) → (length a ≡ length b → ⊥) → same a b ≡ false
-unfolding same ◌and◌
-same_long [] [] ne = absurd (ne refl)
-same_long [] (y ∷ b) ne = refl
-same_long (x ∷ a) [] ne = refl
-same_long (x ∷ a) (y ∷ b) ne = rw (same_long a b (λ e. ne (ap suc e))) (and-false (eqb x y))
-
-module _ (a b : List ℕ) (i : ℕ) where
-  pub same_more : i < length a → i < length b → get_or a i 0 ≡ get_or b i 0 → same (drop i a) (drop i b) ≡ same (drop (i + 1) a) (drop (i + 1) b)
-  unfolding same ◌and◌
-  same_more h g e = rw (add-one, drop-cons a i 0 h, drop-cons b i 0 g, same, eq-eqb (get_or a i 0) (get_or b i 0) e)
-
-  pub same_stop : i < length a → i < length b → (get_or a i 0 ≡ get_or b i 0 → ⊥) → same (drop i a) (drop i b) ≡ false
-  unfolding same ◌and◌
-  same_stop h g ne = rw (drop-cons a i 0 h, drop-cons b i 0 g, same, ne_eqb (get_or a i 0) (get_or b i 0) ne)
-
-  pub same_end : length a ≤ i → length b ≤ i → same (drop i a) (drop i b) ≡ true
-  unfolding same
-  same_end h g = rw (drop_of_length-le a h, drop_of_length-le b g)
-
--- a list filled to its end; written over whole
-pub fill_all : (v : ℕ) (d : List ℕ) (i : ℕ) → i ≤ length d → length d ≤ i → replicate i v ++ drop i d ≡ replicate (length d) v
-fill_all v d i h g = let e : i ≡ length d = omega arith in rw (e, drop-length d, append-nil)
-
+-- a part written over whole
 pub over_all : (src part : List ℕ) → length part ≤ length src → over src part ≡ src
 unfolding over
 over_all src part h = rw (drop_of_length-le part h, append-nil)

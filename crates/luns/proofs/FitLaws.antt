@@ -1,5 +1,5 @@
 -- The parts in which the code judges whether a held LUN fits.
-use mathlib.Core.Path.{◌≡◌, refl, sym, ◌∙◌}
+use mathlib.Core.Path.{◌≡◌, refl}
 use mathlib.Core.Bool.{true, false}
 use mathlib.Core.List.{List, []}
 use Prim.Native.Nat.{ℕ, ◌*◌, ◌≤◌, ◌<◌}
@@ -31,10 +31,6 @@ place_exists_lem img e Fresh = refl
 place_exists_lem img e (At i n) = refl
 
 module _ (img : List ℕ) (u : Lun) where
-  pub high_seated : 8 * dirs img ≤ u.slot → false ≡ seated img u
-  unfolding seated ◌and◌
-  high_seated l = sym (rw (past_unused img u.slot l))
-
   pub seated_used : seated img u ≡ true → unused (entry_at img u.slot) ≡ false
   unfolding seated
   seated_used e = not-true _ (and_left _ _ (and_left _ _ (and_left _ _ e)))
@@ -42,14 +38,6 @@ module _ (img : List ℕ) (u : Lun) where
   pub seated_low : seated img u ≡ true → u.slot < 8 * dirs img
   seated_low e = used_slot img u.slot (seated_used e)
 
-  held_parts : u.held ≡ true → lun_fits img u ≡ seated img u and place_exists img (entry_at img u.slot) u.place
+  pub held_parts : u.held ≡ true → lun_fits img u ≡ seated img u and place_exists img (entry_at img u.slot) u.place
   unfolding lun_fits seated ◌or◌
   held_parts h = rw h
-
-  pub held_unseated : u.held ≡ true → seated img u ≡ false → false ≡ lun_fits img u
-  unfolding ◌and◌
-  held_unseated h e = sym (held_parts h ∙ rw e)
-
-  pub held-seated : u.held ≡ true → seated img u ≡ true → place_exists img (entry_at img u.slot) u.place ≡ lun_fits img u
-  unfolding ◌and◌
-  held-seated h e = sym (held_parts h ∙ rw e)

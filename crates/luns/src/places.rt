@@ -1,41 +1,55 @@
 // Places: what a selector names, seen from where a LUN stands.
+#![tactic(auto, using(lists::proofs::Steps::bool_steps), unfolding(crate::specs::Luns::target, crate::specs::Luns::placeless, crate::specs::Code::Numbers::selector_or))]
+
 ghost use Rattle.std.specs.Prelude.{◌≡◌};
 ghost use Rattle.luns.specs.Luns.{target, placeless};
+ghost use Rattle.luns.specs.Code.Numbers.{selector_or};
 
 use crate::Place;
+use std::convert::TryFrom;
 
-// Of the selectors Next, Current, Prior and Random, 0 to 3, at i with n moved. The sum may pass 32 bits.
-fn target_at(sel: u32, num: u32, i: u32, n: u32) -> usize
-    ensures { result ≡ target sel num (Place.At i n) }
-{
-    let at = i as usize;
-    if sel == 0 {
-        return at + n as usize;
-    }
-    if sel == 1 {
-        return at;
-    }
-    if sel != 2 {
-        return num as usize;
-    }
-    if at == 0 {
-        return 0;
-    }
-    at - 1
+/// Which record or sector a transfer is of, by the house numbers 0 to 3.
+#[derive(Clone, Copy, Debug, PartialEq, Eq)]
+pub enum Selector {
+    Next = 0,
+    Current = 1,
+    Prior = 2,
+    Random = 3,
 }
 
-/// The record or sector number that a selector names: 0 Next, 1 Current, 2 Prior, 3 Random. It may pass 32 bits.
+/// The error of a number that is no selector: one above 3.
+#[derive(Clone, Copy, Debug, PartialEq, Eq)]
+pub struct UnknownSelector;
+
+impl TryFrom<u32> for Selector {
+    type Error = UnknownSelector;
+
+    ghost try_from_gives = { λ k r. r ≡ selector_or k };
+
+    fn try_from(k: u32) -> Result<Selector, UnknownSelector> {
+        match k {
+            0 => Ok(Selector::Next),
+            1 => Ok(Selector::Current),
+            2 => Ok(Selector::Prior),
+            3 => Ok(Selector::Random),
+            _ => Err(UnknownSelector),
+        }
+    }
+}
+
+// Stays: this and the next take the number, since a call may pass any, and the definitions speak of all.
+/// The record or sector number that a selector names: 0 Next, 1 Current, 2 Prior, 3 Random. It may pass 32 bits. Where it names nothing
+/// (`placeless`), it is num at a place and 0 when Fresh, for Prior at the first it is 0, and for Current and Prior when Fresh it is 0.
 pub fn target(sel: u32, num: u32, place: Place) -> usize
     ensures { result ≡ target sel num place }
 {
-    match place {
-        Place::Fresh => {
-            if sel == 3 {
-                return num as usize;
-            }
-            0
-        }
-        Place::At { i, n } => target_at(sel, num, i, n),
+    match (Selector::try_from(sel), place) {
+        (Ok(Selector::Random), _) => num as usize,
+        (_, Place::Fresh) => 0,
+        (Ok(Selector::Next), Place::At { i, n }) => i as usize + n as usize,
+        (Ok(Selector::Current), Place::At { i, .. }) => i as usize,
+        (Ok(Selector::Prior), Place::At { i, .. }) => i.saturating_sub(1) as usize,
+        (Err(_), Place::At { .. }) => num as usize,
     }
 }
 
@@ -43,8 +57,11 @@ pub fn target(sel: u32, num: u32, place: Place) -> usize
 pub fn placeless(sel: u32, place: Place) -> bool
     ensures { result ≡ placeless sel place }
 {
+    let Ok(sel) = Selector::try_from(sel) else {
+        return true;
+    };
     match place {
-        Place::Fresh => (3 < sel) | (sel == 1) | (sel == 2),
-        Place::At { i, n: _ } => (3 < sel) | ((sel == 2) & (i == 0)),
+        Place::Fresh => matches!(sel, Selector::Current | Selector::Prior),
+        Place::At { i, .. } => i == 0 && matches!(sel, Selector::Prior),
     }
 }

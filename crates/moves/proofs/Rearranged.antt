@@ -1,6 +1,5 @@
 -- A volume whose sequential files' sectors moved: the same directory, files with the bytes they had, as many free sectors. It holds of one move,
 -- and of any number of them.
-use Rattle.std.specs.Prelude.{if◌then◌else◌}
 use mathlib.Core.Path.{◌≡◌, refl, ap, sym, ◌∙◌}
 use mathlib.Core.Bool.{Bool, true, false, true≢false}
 use mathlib.Core.List.{List, [], ◌∷◌, ◌++◌}

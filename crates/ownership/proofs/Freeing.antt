@@ -10,7 +10,7 @@ use Rattle.lists.specs.Lists.{flat, range}
 use Rattle.lists.specs.Parts.{sector, part, put_sector}
 use Rattle.lists.proofs.Puts.{put_mid_lem}
 use Rattle.lists.proofs.LentParts.{length-part}
-use Rattle.volume.specs.Sat.{with_bit, with_bits, put_sat}
+use Rattle.volume.specs.Sat.{with_bits, put_sat}
 use Rattle.volume.specs.Directory.{unused, contiguous, start, size}
 use Rattle.volume.specs.Volume.{sat_at, sat}
 use Rattle.volume.specs.Code.Located.{Located}
@@ -32,23 +32,6 @@ free_more v b ps i xs h e = rw (flat_cons segment ps [] i h, e) (with_bits-appen
 pub free_end : (v : ℕ) (b : List ℕ) (ps : List (List ℕ)) (i : ℕ) → length ps ≤ i → with_bits v b (flat segment (drop i ps)) ≡ b
 unfolding with_bits
 free_end v b ps i h = rw (flat_end segment ps [] i h)
-
-pub with_bits-cons : (v : ℕ) (b : List ℕ) (s : ℕ) (ss : List ℕ) → with_bits v (with_bit v b s) ss ≡ with_bits v b (s ∷ ss)
-unfolding with_bits
-with_bits-cons v b s ss = refl
-
--- what a slot holds
-pub held_none : (e : List ℕ) → unused e ≡ true → Nothing ≡ held_by e
-unfolding held_by
-held_none e u = rw u
-
-pub held_run : (e : List ℕ) (s n : ℕ) → unused e ≡ false → contiguous e ≡ true → s ≡ start e → n ≡ size e → Run s n ≡ held_by e
-unfolding held_by
-held_run e s n u k es en = rw (u, k, es, en)
-
-pub held_chain : (e : List ℕ) (s : ℕ) → unused e ≡ false → contiguous e ≡ false → s ≡ start e → Chain s ≡ held_by e
-unfolding held_by
-held_chain e s u k es = rw (u, k, es)
 
 -- what each holding says of the entry
 module _ (img e : List ℕ) (t : ℕ) (long : length img ≡ 256 * t) (h : placed img e ≡ true) where

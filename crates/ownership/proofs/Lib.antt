@@ -13,6 +13,7 @@ pub mod Fewest
 pub mod Freeing
 pub mod OwnedRuns
 pub mod OwnersSound
+pub mod Pairs
 pub mod SegmentRuns
 pub mod Segments
 pub mod Vectors

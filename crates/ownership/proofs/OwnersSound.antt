@@ -5,7 +5,6 @@ use mathlib.Core.Bool.{Bool, true, false}
 use Prim.Native.Nat.{ℕ}
 use lib.ListN.{replicate}
 use Rattle.lists.specs.Lists.{range, ◌and◌, flat, distinct, same}
-use Rattle.lists.specs.Parts.{sector}
 use Rattle.volume.specs.Volume.{sat, system_of, system}
 use Rattle.volume.proofs.Located.{Layout-is}
 use Rattle.volume.specs.Directory.{entries}
@@ -28,12 +27,12 @@ module _ (img : List ℕ) (p : Layout) (l : Located img p) (h : sound3 img ≡ t
   owned_within = rw l.is_t (all_owned-within img p l h)
 
   -- no sector twice, and the table that was left is the SAT
-  pub owned_once : (r : Bool) (m : List ℕ) → Claims (all_owned img) (fresh p.t) true m → r ≡ same (sector p.sat img) m → r ≡ sound5 img
-  unfolding sound5 sat ◌and◌
+  pub owned_once : (r : Bool) (m : List ℕ) → Claims (all_owned img) (fresh p.t) true m → r ≡ same (sat img) m → r ≡ sound5 img
+  unfolding sound5 ◌and◌
   owned_once r m c e =
       let d : distinct (all_owned img) ≡ true = sym (c.answer ∙ claim-fresh p.t l.high (all_owned img) owned_within) in
       let g : m ≡ sat_of p.t (all_owned img) = c.marks refl ∙ table_fresh p.t l.high (all_owned img) owned_within in
-      rw (d, ← l.is_sat, ← l.is_t) (e ∙ ap (same (sector p.sat img)) g)
+      rw (d, ← l.is_t) (e ∙ ap (same (sat img)) g)
 
   pub owned_twice : (m : List ℕ) → Claims (all_owned img) (fresh p.t) false m → false ≡ sound5 img
   unfolding sound5 ◌and◌

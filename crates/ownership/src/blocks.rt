@@ -1,20 +1,24 @@
 // File access blocks: where their numbers stand; read, judged, extended, written.
 ghost use Rattle.std.specs.Prelude.{◌≡◌, false, ◌+◌, ◌*◌, ◌≤◌, ◌<◌, [], ◌∷◌, ◌++◌, length};
+ghost use Rattle.std.specs.List.{list_all, sum_by};
 ghost use Rattle.numbers.specs.Numbers.{most_segments};
 ghost use Rattle.ownership.specs.Blocks.{pairs, segments, total, stream_length, seg_start, seg_length, block_of, extended};
-ghost use Rattle.ownership.specs.Blocks.{block_sound, placed, sound3};
+ghost use Rattle.ownership.specs.Blocks.{segment_sound, block_sound, placed, sound3};
 ghost use Rattle.ownership.specs.Code.Shapes.{BlockShaped, HasSegment, pair_at, follows, last_pair, lengthened, pair, Extends};
 ghost use Rattle.ownership.specs.Code.Shapes.{with_pairs, segments_fit, ExtendsRun, Extended};
 ghost use Rattle.lists.specs.Lists.{range};
 ghost use Rattle.volume.specs.Directory.{unused};
-ghost use Rattle.volume.specs.Code.Located.{Located};
-ghost use Rattle.volume.specs.Code.Used.{used_slots};
 
-use lists::parts::{all_zero, long_at, put_long, put_word, sector_of, wide, word_at};
+use lists::parts::{all_zero, long_at, put_long, put_word, sector_of, word_at};
 use numbers::MOST_SEGMENTS;
-use volume::directory::{contiguous, entry_of, size, start};
-use volume::locate::Layout;
+use volume::directory::{Entry, contiguous, size, start};
+use volume::mount::Volume;
+use volume::used::Used;
 
+/// An access block: one sector.
+pub type Block = [u8; 256];
+
+// Stays: a slice and its length, here and below: a block that is written is lent as a part of an image, which is no array.
 /// How many segments there are.
 pub fn segments(f: &[u8]) -> usize
     requires { length f.now ≡ 256 }
@@ -55,17 +59,56 @@ pub fn seg_length(f: &[u8], k: usize) -> usize
     word_at(f, 10 + 4 * k)
 }
 
+/// The pair of words in which an access block keeps a segment: its start, then its length.
+pub type Pair = [u8; 4];
+
+/// Consecutive sectors of a volume: `length` of them, from number `start` on.
+#[derive(Clone, Copy, Debug, PartialEq, Eq, Hash)]
+pub struct Segment {
+    pub start: usize,
+    pub length: usize,
+}
+
+impl Segment {
+    /// The segment that a pair of words tells.
+    pub fn of(pair: &Pair) -> Segment
+        ensures start { result.start ≡ seg_start pair.now }
+        ensures length { result.length ≡ seg_length pair.now }
+        ensures start_below { result.start < 65536 }
+        ensures length_below { result.length < 65536 }
+    {
+        Segment {
+            start: usize::from(u16::from_be_bytes([pair[0], pair[1]])),
+            length: usize::from(u16::from_be_bytes([pair[2], pair[3]])),
+        }
+    }
+
+    // Has it a sector, and does it lie inside a volume of t sectors?
+    #[tactic(auto, using(lists::proofs::Steps::bool_steps), unfolding(crate::specs::Blocks::segment_sound))]
+    fn fits(pair: &Pair, t: usize) -> bool
+        ensures { result ≡ segment_sound t pair.now }
+    {
+        let segment = Segment::of(pair);
+        1 <= segment.length && segment.start + segment.length <= t
+    }
+}
+
+/// The pairs of an access block, in order.
+pub fn pairs(f: &[u8]) -> &[Pair]
+    requires { (length f.now ≡ 256) × (segments f.now ≤ most_segments) }
+    ensures is { result.now ≡ pairs f.now }
+    ensures few { length result.now ≤ most_segments }
+{
+    f[8..8 + 4 * segments(f)].as_chunks::<4>().0
+}
+
 // Does sector s follow the last segment directly?
 fn joins(f: &[u8], s: usize) -> bool
     requires { BlockShaped f.now }
     ensures { result ≡ follows (pairs f.now) s }
 {
     let n = segments(f);
-    if n == 0 {
-        return false;
-    }
-    let k = n - 1;
-    seg_start(f, k) + seg_length(f, k) == s
+    n != 0 && seg_start(f, n - 1) + seg_length(f, n - 1) == s
 }
 
 // The last segment n sectors longer.
@@ -73,8 +116,7 @@ fn lengthen(f: &mut [u8], n: usize)
     requires { BlockShaped f.old × (1 ≤ segments f.old) × (seg_length (last_pair (pairs f.old)) + n < 65536) }
     ensures { f.new ≡ with_pairs f.old (lengthened (pairs f.old) n) }
 {
-    let k = segments(f);
-    let at = 6 + 4 * k;
+    let at = 6 + 4 * segments(f);
     let len = word_at(f, at);
     put_word(f, at, len + n);
 }
@@ -98,9 +140,9 @@ pub fn extend(f: &mut [u8], s: usize)
 {
     if joins(f, s) {
         lengthen(f, 1);
-        return;
+    } else {
+        open_segment(f, s, 1);
     }
-    open_segment(f, s, 1);
 }
 
 /// n sectors from s on more at the file's end, if 62 segments are enough. If not, the answer is false, and the block stays as it was.
@@ -131,68 +173,67 @@ pub fn set_totals(f: &mut [u8], n: usize, e: usize)
     put_long(f, 4, e);
 }
 
-// Each of the n segments has a sector and lies inside the volume, and their lengths sum to the total.
-fn segments_sound(f: &[u8], n: usize, t: usize) -> bool
-    requires { (length f.now ≡ 256) × (n ≡ segments f.now) × (n ≤ most_segments) }
+// Has each of the segments a sector, and do all lie inside a volume of t sectors?
+fn all_fit(pairs: &[Pair], t: usize) -> bool
+    ensures { result ≡ list_all (segment_sound t) pairs.now }
+{
+    pairs.iter().all(|pair| Segment::fits(pair, t))
+}
+
+// How many sectors the segments have.
+fn sectors_in(pairs: &[Pair]) -> usize
+    requires { length pairs.now ≤ most_segments }
+    ensures { result ≡ sum_by (λ p. seg_length p) pairs.now }
+{
+    pairs.iter().map(|pair| Segment::of(pair).length).sum()
+}
+
+// Each of the segments has a sector and lies inside the volume, and their lengths sum to the total.
+#[tactic(auto, using(lists::proofs::Steps::bool_steps, lists::proofs::Iterators::all_is, crate::proofs::Pairs::sum_listed))]
+fn segments_sound(f: &Block, t: usize) -> bool
+    requires { segments f.now ≤ most_segments }
     ensures { result ≡ segments_fit t f.now }
 {
-    let mut long: usize = 0;
-    let mut i = 0;
-    while i < n {
-        let s = seg_start(f, i);
-        let len = seg_length(f, i);
-        if !((1 <= len) & (s + len <= t)) {
-            return false;
-        }
-        long += len;
-        i += 1;
-    }
-    long == total(f)
+    let pairs = pairs(f);
+    all_fit(pairs, t) && sectors_in(pairs) == total(f)
 }
 
 /// Is an access block as point 3 of soundness asks, on a volume of t sectors?
-pub fn block_sound(f: &[u8], t: usize) -> bool
-    requires { length f.now ≡ 256 }
+#[tactic(auto, using(lists::proofs::Steps::bool_steps, crate::proofs::BlockTests::rest_lent), unfolding(crate::specs::Blocks::block_sound, lists::specs::Parts::in_sectors))]
+pub fn block_sound(f: &Block, t: usize) -> bool
     ensures { result ≡ block_sound t f.now }
 {
     let n = segments(f);
-    if MOST_SEGMENTS < n {
-        return false;
-    }
-    let at = 8 + 4 * n;
-    let rest = all_zero(&f[at..]);
-    let long = stream_length(f);
-    let data = total(f);
-    rest & segments_sound(f, n, t) & (data == (long + 255) / 256)
+    n <= MOST_SEGMENTS
+        && all_zero(&f[8 + 4 * n..])
+        && segments_sound(f, t)
+        && total(f) == stream_length(f).div_ceil(256)
 }
 
 /// Does what a used entry points to lie on the volume, and is its access block sound?
-pub fn placed(img: &[u8], t: usize, e: &[u8]) -> bool
-    requires { (length img.now ≡ 256 * t) × (length e.now ≡ 32) × (unused e.now ≡ false) }
+pub fn placed(img: &[u8], t: usize, e: &Entry) -> bool
+    requires { (length img.now ≡ 256 * t) × (unused e.now ≡ false) }
     ensures { result ≡ placed img.now e.now }
 {
     let s = start(e);
     if contiguous(e) {
-        return s + size(e) <= t;
+        s + size(e) <= t
+    } else {
+        s < t && block_sound(sector_of(img, s), t)
     }
-    if s < t {
-        return block_sound(sector_of(img, s), t);
-    }
-    false
 }
 
-/// Point 3 of soundness but for the streams' tails, where `used` lists the slots in use.
-pub fn blocks_sound(img: &[u8], p: Layout, used: &[u8]) -> bool
-    requires { Located img.now p × (used.now ≡ used_slots img.now) }
-    ensures { result ≡ sound3 img.now }
+// The same on a volume that has its length.
+fn lies_on(v: &Volume<'_>, e: &Entry) -> bool
+    requires { unused e.now ≡ false }
+    ensures { result ≡ placed v.now.img.now e.now }
 {
-    let t = p.t;
-    let mut i = 0;
-    while i < used.len() {
-        if !placed(img, t, entry_of(img, p, wide(used[i]))) {
-            return false;
-        }
-        i += 1;
-    }
-    true
+    placed(v.img, v.p.t, e)
+}
+
+/// Point 3 of soundness but for the streams' tails.
+pub fn blocks_sound(u: &Used<'_, '_>) -> bool
+    ensures { result ≡ sound3 u.now.volume.img.now }
+{
+    (0..u.slots.len()).all(|i| lies_on(&u.volume, u.entry(i)))
 }

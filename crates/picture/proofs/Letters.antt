@@ -2,14 +2,13 @@
 use Rattle.std.specs.Prelude.{if◌then◌else◌}
 use mathlib.Core.Path.{◌≡◌, refl, sym, ap, ◌∙◌}
 use mathlib.Core.Logic.{inl, inr}
-use mathlib.Core.Bool.{Bool, true, false, not}
+use mathlib.Core.Bool.{Bool, true, false, not, ◌||◌, true≢false}
 use mathlib.Core.List.{List}
 use Prim.Native.Nat.{ℕ, ◌+◌, ◌-◌, ◌*◌, ◌<◌, ◌≤◌}
 use native.Mathlib.Omega.{arith}
 use lib.Dec.{eqb, leb, ltb}
-use borrow.Author.Tests.{leb-true, leb-false, ltb-true, ltb-false}
+use borrow.Author.Tests.{leb-true, leb-false, ltb-true, ltb-false, eqb-true, eqb-false, eq-eqb, ne_eqb}
 use Rattle.lists.specs.Lists.{◌or◌, ◌and◌, range, some, among}
-use Rattle.lists.specs.Parts.{sector}
 use Rattle.lists.proofs.Tests.{is_false}
 use Rattle.lists.proofs.Keeps.{range_out}
 use Rattle.lists.proofs.RangeParts.{among-range}
@@ -39,9 +38,41 @@ or_right_first true b c d = refl
 or_right_first false true c d = refl
 or_right_first false false c d = refl
 
-pub system_test : (p : Layout) (x : ℕ) → eqb x 0 or eqb x p.sat or eqb x (p.t - 1) or (leb p.dir x and ltb x (p.dir + p.dirs)) ≡ among x (system_of p)
+system_test : (p : Layout) (x : ℕ) → eqb x 0 or eqb x p.sat or eqb x (p.t - 1) or (leb p.dir x and ltb x (p.dir + p.dirs)) ≡ among x (system_of p)
 unfolding system_of among
 system_test p x = rw (range_test x p.dir p.dirs) (or_right_first (eqb x 0) (eqb x p.sat) (eqb x (p.t - 1)) _)
+
+flip : (a b : ℕ) → eqb a b ≡ eqb b a
+flip a b = by (eqb a b) refl
+  where
+    by : (t : Bool) → eqb a b ≡ t → t ≡ eqb b a
+    by true e = sym (eq-eqb b a (sym (eqb-true a b e)))
+    by false e = sym (ne_eqb b a (λ z. eqb-false a b e (sym z)))
+
+one_of : (a b c d : Bool) → a || (b || (c || false)) ≡ true → true ≡ a or b or c or d
+unfolding ◌or◌
+one_of true b c d h = refl
+one_of false true c d h = refl
+one_of false false true d h = refl
+one_of false false false d h = absurd (true≢false (sym h))
+
+none_of : (a b c d : Bool) → a || (b || (c || false)) ≡ false → d ≡ a or b or c or d
+unfolding ◌or◌
+none_of true b c d h = absurd (true≢false h)
+none_of false true c d h = absurd (true≢false h)
+none_of false false true d h = absurd (true≢false h)
+none_of false false false d h = refl
+
+-- the first three, and then the directory's
+module _ (p : Layout) (x : ℕ) (u : Bool) (is : u ≡ eqb 0 x || (eqb p.sat x || (eqb (p.t - 1) x || false))) where
+  tested : eqb x 0 || (eqb x p.sat || (eqb x (p.t - 1) || false)) ≡ u
+  tested = rw (flip x 0, flip x p.sat, flip x (p.t - 1)) (sym is)
+
+  pub system_first : u ≡ true → u ≡ among x (system_of p)
+  system_first h = h ∙ one_of _ _ _ _ (tested ∙ h) ∙ system_test p x
+
+  pub system_rest : u ≡ false → (d : Bool) → d ≡ leb p.dir x and ltb x (p.dir + p.dirs) → d ≡ among x (system_of p)
+  system_rest h d q = q ∙ none_of _ _ _ _ (tested ∙ h) ∙ system_test p x
 
 -- the tests in the code's order, each by what the code found before it, and the letter at each end
 module _ (img : List ℕ) (p : Layout) (L : Located img p) (x : ℕ) where
@@ -49,9 +80,9 @@ module _ (img : List ℕ) (p : Layout) (L : Located img p) (x : ℕ) where
   unfolding system
   system_at = ap (λ (q : Layout). among x (system_of q)) (Layout-is img p L)
 
-  free_at : (b : List ℕ) → b ≡ sector p.sat img → not (marked b x) ≡ is_free (sat img) x
-  unfolding is_free sat
-  free_at b e = rw (e, L.is_sat)
+  free_at : (b : List ℕ) → b ≡ sat img → not (marked b x) ≡ is_free (sat img) x
+  unfolding is_free
+  free_at b e = rw e
 
   -- a slot is a file's exactly where the sector holds data
   held_slot : holder_of img x < 8 * p.dirs → holds_data img x ≡ true
@@ -69,7 +100,7 @@ module _ (img : List ℕ) (p : Layout) (L : Located img p) (x : ℕ) where
     unfolding sector_letter
     letter_system e = rw (sym system_at ∙ sym i ∙ e)
 
-    module _ (e : its ≡ false) {b : List ℕ} (s : b ≡ sector p.sat img) {mark : Bool} (m : mark ≡ marked b x) where
+    module _ (e : its ≡ false) {b : List ℕ} (s : b ≡ sat img) {mark : Bool} (m : mark ≡ marked b x) where
       outside : among x (system img) ≡ false
       outside = sym system_at ∙ sym i ∙ e
 

@@ -7,17 +7,17 @@ ghost use Rattle.lists.specs.Lists.{some, among};
 ghost use Rattle.lists.specs.Parts.{sectors, over};
 ghost use Rattle.volume.specs.Volume.{system_of};
 ghost use Rattle.volume.specs.Directory.{entries};
-ghost use Rattle.volume.specs.Code.Located.{Located, LaidOut};
+ghost use Rattle.volume.specs.Code.Located.{LaidOut};
 ghost use Rattle.files.specs.Files.{sound};
 ghost use Rattle.compaction.specs.Code.Holders.{Holders};
 ghost use Rattle.picture.specs.Picture.{slot_letter, is_block, sector_letter, picture, drawn};
 
-use compaction::holders::fill_holders;
+use compaction::holders::{Table, fill_holders};
 use files::check::locate_sound;
-use lists::parts::{sector_of, wide};
 use numbers::MOST_SECTORS;
-use volume::directory::{contiguous, entry_of, start, unused};
-use volume::locate::{Layout, Where};
+use volume::directory::{Entry, contiguous, start, unused};
+use volume::locate::Layout;
+use volume::mount::Volume;
 use volume::sat::marked;
 
 // Slots that have a capital letter; a letter; a letter or a digit. The two after these have a sign.
@@ -28,22 +28,21 @@ const LETTERS: usize = 52;
 const LETTERS_AND_DIGITS: usize = 62;
 
 // The letter of slot k, of the 64 that there can be.
+#[tactic(auto, using(std::proofs::lemmas::Bool::Decides::nat_tests), unfolding(crate::specs::Picture::slot_letter))]
 fn slot_letter(k: usize) -> u8
     ensures { result ≡ slot_letter k }
 {
     if k < CAPITALS {
-        return (65 + k) as u8;
+        b'A' + k as u8
+    } else if k < LETTERS {
+        b'a' + (k - CAPITALS) as u8
+    } else if k < LETTERS_AND_DIGITS {
+        b'0' + (k - LETTERS) as u8
+    } else if k == LETTERS_AND_DIGITS {
+        b'+'
+    } else {
+        b'/'
     }
-    if k < LETTERS {
-        return (71 + k) as u8;
-    }
-    if k < LETTERS_AND_DIGITS {
-        return (k - 4) as u8;
-    }
-    if k == LETTERS_AND_DIGITS {
-        return b'+';
-    }
-    b'/'
 }
 
 // Is sector x the system's?
@@ -51,65 +50,52 @@ fn in_system(p: Layout, x: usize) -> bool
     requires { LaidOut p }
     ensures { result ≡ among x (system_of p) }
 {
-    (x == 0) | (x == p.sat) | (x == p.t - 1) | ((p.dir <= x) & (x < p.dir + p.dirs))
+    [0, p.sat, p.t - 1].contains(&x) || (p.dir <= x && x < p.dir + p.dirs)
 }
 
 // Is sector x the access block of an entry's file?
-fn entry_has(e: &[u8], x: usize) -> bool
-    requires { length e.now ≡ 32 }
+#[tactic(auto, using(lists::proofs::Steps::bool_steps), unfolding(crate::specs::Picture::is_block))]
+fn entry_has(e: &Entry, x: usize) -> bool
     ensures { result ≡ is_block x e.now }
 {
-    !(unused(e) | contiguous(e)) & (start(e) == x)
+    !(unused(e) || contiguous(e)) && start(e) == x
 }
 
 // Is it one of any file?
-fn is_block(img: &[u8], p: Layout, x: usize) -> bool
-    requires { Located img.now p }
-    ensures { result ≡ some (is_block x) (entries img.now) }
+fn is_block(v: &Volume<'_>, x: usize) -> bool
+    ensures { result ≡ some (is_block x) (entries v.now.img.now) }
 {
-    let n = 8 * p.dirs;
-    let mut k = 0;
-    while k < n {
-        if entry_has(entry_of(img, p, k), x) {
-            return true;
-        }
-        k += 1;
-    }
-    false
+    v.entries().iter().any(|e| entry_has(e, x))
 }
 
 // The letter of sector x, by the table of who has which data sector.
-fn letter_at(img: &[u8], p: Layout, who: &[u8], x: usize) -> u8
-    requires { Located img.now p × Holders img.now who.now × (x < p.t) }
-    ensures { result ≡ sector_letter img.now x }
+fn letter_at(v: &Volume<'_>, who: &Table, x: usize) -> u8
+    requires { Holders v.now.img.now who.now × (x < v.now.p.t) }
+    ensures { result ≡ sector_letter v.now.img.now x }
 {
-    let sat = p.sat;
-    if in_system(p, x) {
+    if in_system(v.p, x) {
         return b'#';
     }
-    if !marked(sector_of(img, sat), x) {
+    if !marked(v.table(), x) {
         return b'.';
     }
-    let k = wide(who[x]);
-    if k < 8 * p.dirs {
-        return slot_letter(k);
+    let k = usize::from(who[x]);
+    if k < 8 * v.p.dirs {
+        slot_letter(k)
+    } else if is_block(v, x) {
+        b'@'
+    } else {
+        b'='
     }
-    if is_block(img, p, x) {
-        return b'@';
-    }
-    b'='
 }
 
 // Draws every sector.
-fn draw_all(img: &[u8], p: Layout, who: &[u8], out: &mut [u8])
-    requires { Located img.now p × Holders img.now who.now × (most_sectors ≤ length out.old) }
-    ensures { out.new ≡ over (picture img.now) out.old }
+fn draw_all(v: &Volume<'_>, who: &Table, out: &mut [u8])
+    requires { Holders v.now.img.now who.now × (most_sectors ≤ length out.old) }
+    ensures { out.new ≡ over (picture v.now.img.now) out.old }
 {
-    let t = p.t;
-    let mut x = 0;
-    while x < t {
-        out[x] = letter_at(img, p, who, x);
-        x += 1;
+    for x in 0..v.p.t {
+        out[x] = letter_at(v, who, x);
     }
 }
 
@@ -120,13 +106,13 @@ pub fn draw(img: &[u8], out: &mut [u8]) -> usize
     ensures { (result ≡ (if sound img.now then sectors img.now else 0))
         × (out.new ≡ drawn img.now out.old) }
 {
-    let found = locate_sound(img);
-    let Where::At(p) = found else {
+    let Some(p) = locate_sound(img) else {
         return 0;
     };
-    let t = p.t;
+    // Stays: a room of fixed size, lent to what fills it: there is no heap here, and a table by value would be copied.
     let mut who = [0u8; MOST_SECTORS];
-    fill_holders(&mut who, img, p);
-    draw_all(img, p, &who, out);
-    t
+    let v = Volume { img, p };
+    fill_holders(&mut who, &v);
+    draw_all(&v, &who, out);
+    p.t
 }

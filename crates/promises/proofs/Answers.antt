@@ -11,8 +11,8 @@ use Rattle.work.specs.declared.Refusal.TheVariants.{UnknownType, BadLun, WrongCo
 use Rattle.work.specs.declared.Refusal.TheVariants.{NoRoom}
 use Rattle.work.specs.declared.Refusal.TheVariants.{BadDescriptor, NoSegment, NameTaken, DirectoryFull, NotSound}
 use Rattle.work.specs.Refusals.{code, Rule, ◌if◌}
-use Rattle.desk.specs.declared.Answer.{Answer}
-use Rattle.desk.specs.declared.Answer.TheVariants.{Done, Refused}
+use Rattle.desk.specs.Answers.{Answer}
+use Rattle.std.specs.Prelude.{Ok, Err}
 use Rattle.desk.specs.Answers.{status, Outcome, moved, outcome}
 use Rattle.desk.specs.Calls.{step, Call, rules, format, check, bring_up, compact, allocate, assign, close, rewind, delete, read, write, update, begin_rules, open_rules, assign_rules}
 use Rattle.desk.specs.Calls.{compact_rules}
@@ -44,18 +44,18 @@ code_in_table NotSound = refl
 
 pub Answer-in_table : (a : Answer) → among (status a) status_table ≡ true
 unfolding status_table among ◌or◌
-Answer-in_table (Done r) = refl
-Answer-in_table (Refused why) = code_in_table why
+Answer-in_table (Ok r) = refl
+Answer-in_table (Err why) = code_in_table why
 
 pub in_table : InTable
 in_table c s = Answer-in_table (step c s).answer
 
 -- a call that answers a refusal was refused by the first rule that applies
-pub refused-First : (c : Call) (s : State) (r : Refusal) → (step c s).answer ≡ Refused r → (k : ℕ) × First (rules c s) k r
+pub refused-First : (c : Call) (s : State) (r : Refusal) → (step c s).answer ≡ Err r → (k : ℕ) × First (rules c s) k r
 refused-First c s r e =
     ⊎_elim
     (λ t.
-    let q : t.why ≡ r = let x : Refused t.why ≡ Refused r = sym (ap (λ (o : Outcome). o.answer) t.is) ∙ e in cc in
+    let q : t.why ≡ r = let x : Err t.why ≡ Err r = sym (ap (λ (o : Outcome). o.answer) t.is) ∙ e in cc in
     (t.place, rw q at t.first))
     (λ a. let z : ◌≡◌ {A = ℕ} 0 1 = let x = sym (ap (λ (o : Outcome). o.answer) a.is) ∙ e in cc in absurd (omega arith))
     (refused_or_Accepted c s)
@@ -76,7 +76,7 @@ refusal_keeps c s r e =
     }
 
 -- all calls but format, check and bring-up begin with the rule of a state that is not ready
-unready : (c : Call) (s : State) (rs : List Rule) → rules c s ≡ NotSound if not (ready s) ∷ rs → ready s ≡ false → (step c s).answer ≡ Refused NotSound
+unready : (c : Call) (s : State) (rs : List Rule) → rules c s ≡ NotSound if not (ready s) ∷ rs → ready s ≡ false → (step c s).answer ≡ Err NotSound
 unready c s rs e h =
     let first-rule : First (NotSound if not (ready s) ∷ rs) 0 NotSound = record {
       inside = omega arith;

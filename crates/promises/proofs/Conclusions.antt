@@ -15,8 +15,8 @@ use Rattle.work.specs.declared.Refusal.TheVariants.{NotSound}
 use Rattle.desk.specs.Answers.{judged, accepts, status, Outcome}
 use Rattle.desk.specs.Calls.{rules, done, checked, given, step, check, close, Call, allocate, write}
 use Rattle.desk.specs.Desk.{State, state, empty_desk, file_of}
-use Rattle.desk.specs.declared.Answer.{Answer}
-use Rattle.desk.specs.declared.Answer.TheVariants.{Done, Refused}
+use Rattle.desk.specs.Answers.{Answer}
+use Rattle.std.specs.Prelude.{Ok, Err}
 use Rattle.promises.specs.Conclusions.{CheckCounts, NotAllRefused, NotAllDone, NotUnchanged, NotOnlyE}
 use Rattle.promises.specs.Answers.{First}
 use Rattle.promises.specs.Steps.{blank, service_open, calls, story, desc_of, desc}
@@ -32,10 +32,10 @@ no_rule : (s : State) (k : ℕ) (r : Refusal) → First (rules check s) k r → 
 unfolding rules
 no_rule s k r f = let h : k < 0 = f.inside in omega arith
 
-refused_for : (a : Answer) → accepts a ≡ false → (r : Refusal) × (a ≡ Refused r)
+refused_for : (a : Answer) → accepts a ≡ false → (r : Refusal) × (a ≡ Err r)
 unfolding accepts
-refused_for (Done r) h = absurd (true≢false h)
-refused_for (Refused r) h = (r, refl)
+refused_for (Ok r) h = absurd (true≢false h)
+refused_for (Err r) h = (r, refl)
 
 pub not_all_refused : NotAllRefused
 not_all_refused p exactly h =
@@ -47,14 +47,14 @@ not_all_refused p exactly h =
 nowhere : State
 nowhere = state [] empty_desk
 
-close-refused : (step (close 0 0) nowhere).answer ≡ Refused NotSound
+close-refused : (step (close 0 0) nowhere).answer ≡ Err NotSound
 unfolding nowhere service_open
 close-refused = refl
 
 pub not_all_done : NotAllDone
 not_all_done p exactly h =
     let first-rule = refused-First (close 0 0) nowhere NotSound close-refused in
-    let e : (p (close 0 0) nowhere).answer ≡ Refused NotSound = (exactly (close 0 0) nowhere NotSound).1 first-rule in
+    let e : (p (close 0 0) nowhere).answer ≡ Err NotSound = (exactly (close 0 0) nowhere NotSound).1 first-rule in
     let z : ◌≡◌ {A = ℕ} 0x6F 0 = sym (ap status e) ∙ h (close 0 0) nowhere in
     omega arith
 

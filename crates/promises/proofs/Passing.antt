@@ -10,7 +10,7 @@ use Rattle.work.specs.Refusals.{Rule, ◌if◌, ruled}
 use Rattle.work.specs.declared.Refusal.TheVariants.{NotSound}
 use Rattle.work.specs.declared.Refusal.{Refusal}
 use Rattle.work.proofs.Rules.{Passes}
-use Rattle.desk.specs.declared.Answer.TheVariants.{Refused, Done}
+use Rattle.std.specs.Prelude.{Err, Ok}
 use Rattle.desk.specs.Desk.{State, state}
 use Rattle.desk.specs.Answers.{Outcome, outcome, judged, accepts}
 use Rattle.desk.specs.Calls.{Call, given, done, rules, step}
@@ -33,7 +33,7 @@ First-later x rs k r f = record {
 
 -- What a refused call leaves
 abbrev pub refusal : Call → State → Refusal → Outcome
-refusal c s r = outcome (Refused r) s.image s.desk (given c)
+refusal c s r = outcome (Err r) s.image s.desk (given c)
 
 -- one or the other
 pub refuses_or_Passes : (rs : List Rule) → ((r : Refusal) × (k : ℕ) × First rs k r) ⊎ (Passes rs)
@@ -72,7 +72,7 @@ module _ {A : Type 0} (refuse : Refusal → A) (pass : A) where
 
 -- What a call that is carried out leaves, and the state after that
 abbrev pub carried : Call → State → Outcome
-carried c s = outcome (Done (done c s).report) (done c s).image (done c s).desk (done c s).buffer
+carried c s = outcome (Ok (done c s).report) (done c s).image (done c s).desk (done c s).buffer
 
 abbrev pub carried_to : Call → State → State
 carried_to c s = state (done c s).image (done c s).desk

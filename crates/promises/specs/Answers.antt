@@ -7,8 +7,8 @@ use Rattle.work.specs.Refusals.{code, Rule, ◌if◌}
 use Rattle.desk.specs.Desk.{State, ready}
 use Rattle.desk.specs.Answers.{status, moved, Outcome}
 use Rattle.desk.specs.Calls.{Call, format, check, bring_up, step, given, rules, Ensured}
-use Rattle.desk.specs.declared.Answer.{Answer}
-use Rattle.desk.specs.declared.Answer.TheVariants.{Refused}
+use Rattle.desk.specs.Answers.{Answer}
+use Rattle.std.specs.Prelude.{Err}
 use Rattle.desk.specs.declared.Desk.{Desk}
 
 -- RULES, Status numbers
@@ -29,7 +29,7 @@ pub record Kept (c : Call) (s : State) (r : Refusal) : Type 0 where
   pub buffer_kept : (step c s).buffer ≡ given c
 
 abbrev pub RefusalKeeps : Type 0
-RefusalKeeps = (c : Call) (s : State) (r : Refusal) → (step c s).answer ≡ Refused r → Kept c s r
+RefusalKeeps = (c : Call) (s : State) (r : Refusal) → (step c s).answer ≡ Err r → Kept c s r
 
 -- Demand 2: "each refusal comes exactly when its condition holds and no earlier one in its call's order does."
 -- The rule at place k of the call's order is the first that applies
@@ -44,7 +44,7 @@ abbrev pub Program : Type 0
 Program = Call → State → Outcome
 
 abbrev pub RefusesExactly : Program → Type 0
-RefusesExactly p = (c : Call) (s : State) (r : Refusal) → ((p c s).answer ≡ Refused r) ↔ ((k : ℕ) × First (rules c s) k r)
+RefusesExactly p = (c : Call) (s : State) (r : Refusal) → ((p c s).answer ≡ Err r) ↔ ((k : ℕ) × First (rules c s) k r)
 
 abbrev pub RefusedExactly : Type 0
 RefusedExactly = RefusesExactly (λ c s. step c s)
@@ -56,7 +56,7 @@ NoFormat c = (id : List ℕ) (n : ℕ) → c ≢ format id n
 
 abbrev pub UnreadyRefused : Type 0
 UnreadyRefused =
-    (c : Call) (s : State) → NoFormat c → c ≢ check → c ≢ bring_up → ready s ≡ false → (step c s).answer ≡ Refused NotSound
+    (c : Call) (s : State) → NoFormat c → c ≢ check → c ≢ bring_up → ready s ≡ false → (step c s).answer ≡ Err NotSound
 
 -- At most one outcome satisfies each call's statement: `Ensured` is what the twelve public functions ensure
 pub record SameOutcome (a a' : Answer) (img img' : List ℕ) (d d' : Desk) (buf buf' : List ℕ) : Type 0 where

@@ -10,7 +10,7 @@ use Rattle.work.specs.declared.Refusal.TheVariants.{NotSound}
 use Rattle.desk.specs.Desk.{State}
 use Rattle.desk.specs.Answers.{Outcome}
 use Rattle.desk.specs.Calls.{format, bring_up, step}
-use Rattle.desk.specs.declared.Answer.TheVariants.{Done, Refused}
+use Rattle.std.specs.Prelude.{Ok, Err}
 use Rattle.desk.specs.declared.Report.TheVariants.{Moved}
 use Rattle.promises.specs.Contents.{SameContents, SamePlaces}
 use Rattle.promises.specs.Runs.{Visit, through}
@@ -34,7 +34,7 @@ StoredCountsStay =
 -- "accepts exactly the volumes sound by the old rule .. all others $6F". (`RefusalKeeps` has what a refusal leaves)
 pub record Exactly (s : State) : Type 0 where
   pub old_accepted : Accepts bring_up s ↔ (sound_before s.image ≡ true)
-  pub others_refused : ((step bring_up s).answer ≡ Refused NotSound) ↔ (sound_before s.image ≡ false)
+  pub others_refused : ((step bring_up s).answer ≡ Err NotSound) ↔ (sound_before s.image ≡ false)
 
 abbrev pub BringUpExactly : Type 0
 BringUpExactly = (s : State) → Exactly s
@@ -48,7 +48,7 @@ NoCountByte img j =
 -- "bring_up's result is sound, holds the same records and files, and differs in those bytes alone"; "leaves the desk as it is", and a desk
 -- that fitted goes on fitting
 pub record BroughtUp (s : State) (o : Outcome) : Type 0 where
-  pub answered : o.answer ≡ Done (Moved 0)
+  pub answered : o.answer ≡ Ok (Moved 0)
   pub is_sound : sound o.image ≡ true
   pub as_long : length o.image ≡ length s.image
   pub only_counts : (j : ℕ) → NoCountByte s.image j → byte o.image j ≡ byte s.image j
@@ -66,7 +66,7 @@ AcceptedBringUp = (s : State) → Accepts bring_up s → BroughtUp s (step bring
 -- "A volume sound by the new rule that has records is $6F to it; one with no records is sound by both and comes back as it was"
 pub record SoundAlready : Type 0 where
   pub with_records : (s : State) → sound s.image ≡ true → (k : ℕ) → File s.image k → contiguous (entry_at s.image k) ≡ false
-      → 1 ≤ length (records s.image (entry_at s.image k)) → (step bring_up s).answer ≡ Refused NotSound
+      → 1 ≤ length (records s.image (entry_at s.image k)) → (step bring_up s).answer ≡ Err NotSound
   pub with_none : (s : State) → sound s.image ≡ true
       → ((k : ℕ) → File s.image k → contiguous (entry_at s.image k) ≡ false → length (records s.image (entry_at s.image k)) ≡ 0)
       → Accepts bring_up s × ((step bring_up s).image ≡ s.image)

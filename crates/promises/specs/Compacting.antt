@@ -16,8 +16,8 @@ use Rattle.compaction.specs.declared.Ending.TheVariants.{Settled, QuotaUsed, Seg
 use Rattle.desk.specs.Desk.{State}
 use Rattle.desk.specs.Answers.{Outcome, outcome}
 use Rattle.desk.specs.Calls.{Call, compact, read, step}
-use Rattle.desk.specs.declared.Answer.{Answer}
-use Rattle.desk.specs.declared.Answer.TheVariants.{Done}
+use Rattle.desk.specs.Answers.{Answer}
+use Rattle.std.specs.Prelude.{Ok}
 use Rattle.desk.specs.declared.Report.TheVariants.{Compacted}
 use Rattle.promises.specs.Contents.{SameContents, SameFile}
 use Rattle.promises.specs.Runs.{next, trace}
@@ -69,7 +69,7 @@ LongRuns img = (n : ℕ) → 1 ≤ n → (n - 1) * (files_in img + 3) < free img
 
 -- what a compaction does, that moves n sectors within its quota and ends so
 pub record Compacts (s : State) (o : Outcome) (quota n : ℕ) (why : Ending) : Type 0 where
-  pub answered : o.answer ≡ Done (Compacted n why)
+  pub answered : o.answer ≡ Ok (Compacted n why)
   -- "The number equals the steps of the definition", "at most the quota"
   pub by_steps : o.image ≡ steps_of n s.image
   pub at_most : n ≤ quota
@@ -99,9 +99,9 @@ LittleByLittle = (s : State) (m n : ℕ) → m + n ≤ most_quota → next (comp
 -- after a settled end "a further call moves 0"
 abbrev pub SettledAgain : Type 0
 SettledAgain =
-    (s : State) (quota n : ℕ) → (step (compact quota) s).answer ≡ Done (Compacted n Settled) → (more : ℕ) → more ≤ most_quota
+    (s : State) (quota n : ℕ) → (step (compact quota) s).answer ≡ Ok (Compacted n Settled) → (more : ℕ) → more ≤ most_quota
     → step (compact more) (next (compact quota) s)
-    ≡ outcome (Done (Compacted 0 Settled)) (next (compact quota) s).image (next (compact quota) s).desk []
+    ≡ outcome (Ok (Compacted 0 Settled)) (next (compact quota) s).image (next (compact quota) s).desk []
 
 -- "nothing that any read returns": a read, by any caller, LUN, selector and buffer, and any run of reads
 pub record Reading : Type 0 where

@@ -7,7 +7,7 @@ use Rattle.files.specs.Files.{extent, sound}
 use Rattle.desk.specs.Desk.{State, file_of}
 use Rattle.desk.specs.Answers.{accepts, status, outcome}
 use Rattle.desk.specs.Calls.{Call, Ensured, step, write, check}
-use Rattle.desk.specs.declared.Answer.TheVariants.{Done}
+use Rattle.std.specs.Prelude.{Ok}
 use Rattle.desk.specs.declared.Report.TheVariants.{Checked}
 use Rattle.promises.specs.Answers.{Program, RefusesExactly}
 
@@ -43,4 +43,4 @@ NotOnlyE =
 abbrev pub CheckCounts : Type 0
 CheckCounts =
     (s : State) → step check s
-    ≡ outcome (Done (Checked (sound s.image) (if sound s.image then free s.image else 0))) s.image s.desk []
+    ≡ outcome (Ok (Checked (sound s.image) (if sound s.image then free s.image else 0))) s.image s.desk []

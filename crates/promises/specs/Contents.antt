@@ -18,7 +18,7 @@ use Rattle.desk.specs.Answers.{Outcome}
 use Rattle.desk.specs.Calls.{write, step, update, read, Call, touch}
 use Rattle.desk.specs.declared.Desk.{Desk}
 use Rattle.desk.specs.declared.Report.TheVariants.{Moved}
-use Rattle.desk.specs.declared.Answer.TheVariants.{Done}
+use Rattle.std.specs.Prelude.{Ok}
 use Rattle.promises.specs.Answers.{NoFormat}
 use Rattle.promises.specs.Sectors.{Accepts, Bytes, File}
 use Rattle.promises.specs.Touches.{changes, rewrites}
@@ -46,7 +46,7 @@ Moves s o lun i n = OnlyLun s.desk o.desk lun (moved_to (At i n) (lun_at s.desk 
 -- RULES, Write: the file's records are the old ones and the new one, and its entry is the same but for the record count, which is one more;
 -- or exactly those sectors have the data, and the entry is the same. Of bs, the bytes sent, ss is stored (`stored_as`)
 pub record Wrote (s : State) (o : Outcome) (lun i : ℕ) (bs ss : List ℕ) : Type 0 where
-  pub answered : o.answer ≡ Done (Moved (length bs))
+  pub answered : o.answer ≡ Ok (Moved (length bs))
   pub same_but_count : SameButCount (file_of s lun) (entry_at o.image (slot_held s lun))
   pub one_more : contiguous (file_of s lun) ≡ false → record_count (entry_at o.image (slot_held s lun)) ≡ record_count (file_of s lun) + 1
   pub appended_record : contiguous (file_of s lun) ≡ false
@@ -66,7 +66,7 @@ AcceptedWrite =
 
 -- RULES, Update: the record, which is stored in the same length, and no other
 pub record Updated (s : State) (o : Outcome) (lun i : ℕ) (bs ss : List ℕ) : Type 0 where
-  pub answered : o.answer ≡ Done (Moved (length bs))
+  pub answered : o.answer ≡ Ok (Moved (length bs))
   pub entry_same : entry_at o.image (slot_held s lun) ≡ file_of s lun
   pub sequential : contiguous (file_of s lun) ≡ false
   pub there : i < length (records s.image (file_of s lun))
@@ -85,7 +85,7 @@ abbrev pub least : ℕ → ℕ → ℕ
 least m n = if leb m n then m else n
 
 pub record HandedOver (s : State) (o : Outcome) (lun i : ℕ) (fmt : Bool) (buf bs : List ℕ) : Type 0 where
-  pub answered : o.answer ≡ Done (Moved (length bs))
+  pub answered : o.answer ≡ Ok (Moved (length bs))
   pub image_kept : o.image ≡ s.image
   pub room : length bs ≤ length buf
   pub buffer_has : o.buffer ≡ over bs buf

@@ -15,13 +15,13 @@ use Rattle.desk.specs.Desk.{State, empty_desk}
 use Rattle.desk.specs.Answers.{Outcome}
 use Rattle.desk.specs.Calls.{step, format, allocate, delete}
 use Rattle.desk.specs.declared.Report.TheVariants.{Moved}
-use Rattle.desk.specs.declared.Answer.TheVariants.{Done}
+use Rattle.std.specs.Prelude.{Ok}
 use Rattle.promises.specs.Sectors.{Accepts}
 
 -- RULES, Format: the formatted volume of the image's own length, whatever the image held, with no file, all but the system sectors free,
 -- and an empty desk
 pub record Formats (s : State) (o : Outcome) (id : List ℕ) (n : ℕ) : Type 0 where
-  pub answered : o.answer ≡ Done (Moved 0)
+  pub answered : o.answer ≡ Ok (Moved 0)
   pub is_formatted : o.image ≡ formatted id n (sectors s.image)
   pub as_long : length o.image ≡ length s.image
   pub has_id : take 4 o.image ≡ id
@@ -37,7 +37,7 @@ AcceptedFormat = (s : State) (id : List ℕ) (n : ℕ) → Accepts (format id n)
 -- RULES, Allocate: the file is found by its descriptor in slot j, which is the lowest unused one; it is as asked for, and zeroed or empty;
 -- its sectors are the lowest run that was free, and no other sector's mark changes; the name is new, and every other is found as before
 pub record Allocates (s : State) (o : Outcome) (desc : List ℕ) (k n l rc j : ℕ) : Type 0 where
-  pub answered : o.answer ≡ Done (Moved 0)
+  pub answered : o.answer ≡ Ok (Moved 0)
   pub found : (exists o.image desc ≡ true) × (slot_of o.image desc ≡ j)
   pub was_unused : unused (entry_at s.image j) ≡ true
   pub lower_used : (i : ℕ) → i < j → unused (entry_at s.image i) ≡ false
@@ -66,7 +66,7 @@ AcceptedAllocate =
 -- RULES, Delete: the name is found no more, and every other as before; all sectors that the file owned are free, and no others; what they
 -- hold is left as it is
 pub record Deletes (s : State) (o : Outcome) (desc : List ℕ) (j : ℕ) : Type 0 where
-  pub answered : o.answer ≡ Done (Moved 0)
+  pub answered : o.answer ≡ Ok (Moved 0)
   pub was_found : (exists s.image desc ≡ true) × (slot_of s.image desc ≡ j)
   pub is_lost : exists o.image desc ≡ false
   pub is_unused : entry_at o.image j ≡ blanks 32

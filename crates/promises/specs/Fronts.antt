@@ -11,7 +11,7 @@ use Rattle.deskbytes.specs.DeskBytes.{desk_size, desk_form}
 use Rattle.desk.specs.Desk.{State, state, empty_desk, file_of, aimed}
 use Rattle.desk.specs.Answers.{Outcome, moved}
 use Rattle.desk.specs.Calls.{Call, format, bring_up, compact, rules, sent, step}
-use Rattle.desk.specs.declared.Answer.TheVariants.{Done}
+use Rattle.std.specs.Prelude.{Ok}
 use Rattle.desk.specs.declared.Report.TheVariants.{Compacted}
 use Rattle.front.specs.Blocks.{block_size, function_of, options_of, lun_in, number_in, start_in, end_in, selector_in, formatted_in, is_transfer}
 use Rattle.front.specs.Areas.{names_shared, offset, area, part_named}
@@ -240,7 +240,7 @@ FrontStaysGood =
 -- "C header: the call, with count and reason": what compact leaves of its report
 pub record ReportTold (quota : ℕ) (img bs rep : List ℕ) : Type 0 where
   pub if_done : (n : ℕ) (why : Ending) → desk_form bs ≡ true
-      → (step (compact quota) (state img (unpacked_desk bs))).answer ≡ Done (Compacted n why) → length rep ≡ report_size
+      → (step (compact quota) (state img (unpacked_desk bs))).answer ≡ Ok (Compacted n why) → length rep ≡ report_size
       → report_after quota img bs rep ≡ ending_number why ∷ 0 ∷ bytes2 n
   pub if_refused : (serve (compact quota) img bs).returned ≢ 0x00 → report_after quota img bs rep ≡ rep
   pub if_other_length : length rep ≢ report_size → report_after quota img bs rep ≡ rep

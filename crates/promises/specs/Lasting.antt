@@ -12,7 +12,7 @@ use Rattle.desk.specs.Answers.{accepts, moved}
 use Rattle.desk.specs.Calls.{step, touch, write, update, read}
 use Rattle.desk.specs.declared.Report.TheVariants.{Moved}
 use Rattle.work.specs.declared.Refusal.TheVariants.{PastEnd}
-use Rattle.desk.specs.declared.Answer.TheVariants.{Done, Refused}
+use Rattle.std.specs.Prelude.{Ok, Err}
 use Rattle.promises.specs.Runs.{Visit, found, through}
 use Rattle.promises.specs.Touches.{ends}
 use Rattle.promises.specs.Sectors.{Sound, Bytes, VisitBytes, Accepts, File}
@@ -56,7 +56,7 @@ abbrev pub ReadsAs : State → ℕ → ℕ → Bool → List ℕ → Type 0
 ReadsAs t k i fmt bs =
     (caller lun sel num : ℕ) (buf : List ℕ) → Accepts (read caller lun sel num fmt buf) t → slot_held t lun ≡ k → aimed t lun sel num ≡ i
     → ((step (read caller lun sel num fmt buf) t).buffer ≡ over bs buf)
-    × ((step (read caller lun sel num fmt buf) t).answer ≡ Done (Moved (length bs)))
+    × ((step (read caller lun sel num fmt buf) t).answer ≡ Ok (Moved (length bs)))
 
 -- what is stored in unit i of slot k, whose entry is e, is handed over as it is asked for
 abbrev pub HandsBack : State → List ℕ → ℕ → ℕ → List ℕ → Type 0
@@ -117,4 +117,4 @@ NeverPastEnd =
     (img : List ℕ) → Sound img → (k i : ℕ) → File img k → i < extent img (entry_at img k)
     → (vs : List Visit) (t : State) → Between img k i vs t.image
     → (caller lun sel num : ℕ) (fmt : Bool) (buf : List ℕ) → slot_held t lun ≡ k → aimed t lun sel num ≡ i
-    → (step (read caller lun sel num fmt buf) t).answer ≢ Refused PastEnd
+    → (step (read caller lun sel num fmt buf) t).answer ≢ Err PastEnd

@@ -10,7 +10,7 @@ use Rattle.ownership.specs.Owners.{sound5}
 use Rattle.files.specs.Files.{sound4, counts_are, no_count, sound_before}
 use Rattle.files.specs.Rights.{has_right, may_read}
 use Rattle.work.specs.declared.Refusal.TheVariants.{NotSound}
-use Rattle.desk.specs.declared.Answer.TheVariants.{Refused}
+use Rattle.std.specs.Prelude.{Err}
 use Rattle.desk.specs.Desk.{State, state, empty_desk, file_of}
 use Rattle.desk.specs.Answers.{Outcome, outcome, accepts, moved}
 use Rattle.desk.specs.Calls.{Call, format, check, assign, read, given, step}
@@ -28,7 +28,7 @@ abbrev pub found_at : List Call → State → ℕ → State
 found_at cs s k = run (take k cs) s
 
 abbrev pub outcome_at : List Call → State → ℕ → Outcome
-outcome_at cs s k = get_or (trace cs s) k (outcome (Refused NotSound) [] empty_desk [])
+outcome_at cs s k = get_or (trace cs s) k (outcome (Err NotSound) [] empty_desk [])
 
 -- call j is an accepted assign by which the caller offered this code for the file of this descriptor, and got the LUN
 pub record Offered (cs : List Call) (s : State) (caller lun : ℕ) (desc : List ℕ) (rc j : ℕ) : Type 0 where

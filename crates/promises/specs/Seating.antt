@@ -12,7 +12,7 @@ use Rattle.desk.specs.Desk.{State, lun_at}
 use Rattle.desk.specs.Answers.{Outcome}
 use Rattle.desk.specs.Calls.{step, assign, close, rewind}
 use Rattle.desk.specs.declared.Report.TheVariants.{Moved}
-use Rattle.desk.specs.declared.Answer.TheVariants.{Done}
+use Rattle.std.specs.Prelude.{Ok}
 use Rattle.promises.specs.Sectors.{Accepts}
 use Rattle.promises.specs.Contents.{OnlyLun}
 
@@ -20,7 +20,7 @@ use Rattle.promises.specs.Contents.{OnlyLun}
 -- if the mode reads, the caller may; RULES, Places and selectors: its place is Fresh, but if the end is asked for, the mode writes and
 -- there is a record or sector, At the last one
 pub record Seats (s : State) (o : Outcome) (caller lun : ℕ) (desc : List ℕ) (mode : ℕ) (end : Bool) (offered : ℕ) (u : Lun) : Type 0 where
-  pub answered : o.answer ≡ Done (Moved 0)
+  pub answered : o.answer ≡ Ok (Moved 0)
   pub image_kept : o.image ≡ s.image
   pub only_lun : OnlyLun s.desk o.desk lun u
   pub is_held : u.held ≡ true
@@ -42,7 +42,7 @@ AcceptedAssign =
 
 -- RULES, Close and rewind: close frees the LUN, rewind makes its place Fresh
 pub record Frees (s : State) (o : Outcome) (lun : ℕ) : Type 0 where
-  pub answered : o.answer ≡ Done (Moved 0)
+  pub answered : o.answer ≡ Ok (Moved 0)
   pub image_kept : o.image ≡ s.image
   pub only_lun : OnlyLun s.desk o.desk lun free_lun
 
@@ -50,7 +50,7 @@ abbrev pub AcceptedClose : Type 0
 AcceptedClose = (s : State) (caller lun : ℕ) → Accepts (close caller lun) s → Frees s (step (close caller lun) s) lun
 
 pub record Rewinds (s : State) (o : Outcome) (lun : ℕ) : Type 0 where
-  pub answered : o.answer ≡ Done (Moved 0)
+  pub answered : o.answer ≡ Ok (Moved 0)
   pub image_kept : o.image ≡ s.image
   pub only_lun : OnlyLun s.desk o.desk lun (moved_to Fresh (lun_at s.desk lun))
 

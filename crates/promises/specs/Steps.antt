@@ -26,8 +26,8 @@ use Rattle.compaction.specs.Compaction.{compaction_open}
 use Rattle.desk.specs.Calls.{Call, format, bring_up, compact, allocate, assign, rewind, delete, read, write, update, calls_open}
 use Rattle.desk.specs.Answers.{Outcome, status, moved, answers_open}
 use Rattle.desk.specs.Desk.{state, State, empty_desk, desk_open}
-use Rattle.desk.specs.declared.Answer.{Answer}
-use Rattle.desk.specs.declared.Answer.TheVariants.{Done, Refused}
+use Rattle.desk.specs.Answers.{Answer}
+use Rattle.std.specs.Prelude.{Ok, Err}
 use Rattle.desk.specs.declared.Report.TheVariants.{Moved, Checked, Compacted}
 use Rattle.front.specs.Front.{ending_number}
 use Rattle.promises.specs.Runs.{trace, next}
@@ -42,10 +42,10 @@ calls = map (λ t. t.call)
 
 -- of a compaction the sectors moved, and why it ended by its number
 unfoldable pub tally : Answer → List ℕ
-tally (Done (Moved n)) = []
-tally (Done (Checked s f)) = []
-tally (Done (Compacted n why)) = n ∷ ending_number why ∷ []
-tally (Refused why) = []
+tally (Ok (Moved n)) = []
+tally (Ok (Checked s f)) = []
+tally (Ok (Compacted n why)) = n ∷ ending_number why ∷ []
+tally (Err why) = []
 
 -- of each call its status, its length, its tally, and what is looked at
 unfoldable pub shown : List Step → List Outcome → List (List ℕ)

@@ -69,9 +69,6 @@ module _ (s : List ℕ) (p n : ℕ) (is : n ≡ word s p) (room : p + 2 ≤ leng
       let z : p + 2 + (n + n % 2) ≡ q = omega arith in
       rw (two s p room, ← is, cut_skip (n + n % 2) (drop (p + 2) s), drop-drop, z)
 
-  pub count_next : length (cut 0 (drop p s)) ≡ suc (length (cut 0 (drop q s)))
-  count_next = ap length cut_next
-
   pub good_past : length s < q → good_at s p ≡ false
   unfolding good_at ◌and◌
   good_past h = rw (← is, lt-leb q (length s) h, and-false)

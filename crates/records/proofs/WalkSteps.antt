@@ -1,64 +1,64 @@
 -- The walks' steps and ends, as the code meets them: at a place of a mapped stream.
-use Rattle.std.specs.Prelude.{if◌then◌else◌}
+use Rattle.std.specs.Prelude.{if◌then◌else◌, Some, None}
 use mathlib.Core.Path.{◌≡◌, ap, sym, ◌∙◌, refl}
-use mathlib.Core.Bool.{true, false, Bool, ◌||◌}
+use mathlib.Core.Bool.{true, false, Bool}
 use mathlib.Core.List.{List, []}
 use Prim.Native.Nat.{ℕ, ◌+◌, ◌*◌, ◌-◌, ◌%◌, ◌≤◌, ◌<◌, ◌/◌, suc, zero-le}
 use native.Mathlib.Omega.{arith}
 use native.Mathlib.Decide.{dec_lt, ℕ_discrete}
-use native.Mathlib.Nat.{zero-mul, mul-suc, mul-le-mul_left, div-add-mod}
+use native.Mathlib.Nat.{zero-mul, one-mul, mul-zero, mul-suc, mul-le-mul_left, div-add-mod}
 use lib.ListN.{length, get_or-eq_default, drop, get_or, length-drop}
 use lib.Seq.{length-take-le, get_or-take}
-use lib.Dec.{ltb, eqb}
-use borrow.Author.Tests.{eq-eqb, ne_eqb, lt-ltb, le-ltb, ltb-true, ltb-false}
+use lib.Dec.{eqb}
+use borrow.Author.Tests.{eq-eqb, ne_eqb, lt-ltb, le-ltb}
 use Rattle.numbers.specs.Numbers.{record_limit}
 use Rattle.lists.specs.Parts.{word, byte, part}
-use Rattle.lists.specs.Lists.{◌or◌}
 use Rattle.lists.proofs.AreBytes.{Bytes}
-use Rattle.lists.proofs.Bools.{or_is}
-use Rattle.lists.proofs.Tests.{or_cases, or_left, or_right}
 use Rattle.records.specs.Code.Walk.{past_of, good_at, next_at, place_of, head_of}
 use Rattle.records.specs.Code.Spots.{step_at, counted_of, spot_of}
-use Rattle.records.specs.declared.record.Step.TheVariants.{Next, Bad}
 use Rattle.records.specs.Streams.{laid_out}
 use Rattle.records.specs.Code.Mapped.{Mapped, stream_in}
 use Rattle.records.specs.Code.Runs.{address_of}
 use Rattle.records.specs.Records.{whole, cut, whole_records, records_of}
-use Rattle.records.specs.declared.record.Counted.TheVariants.{Broken, Whole}
-use Rattle.records.specs.declared.record.Spot.TheVariants.{At, Past}
 use Rattle.records.proofs.RecordWalk.{next_is, good_short, good_large, good_past, good_pads, Good, Good-facts, whole_good, count_good, whole_bad}
 use Rattle.records.proofs.RecordWalk.{whole_end, cut_end}
 use Rattle.records.proofs.StreamBytes.{length-laid_out, laid_out_at}
 use Rattle.records.proofs.RecordStreams.{whole_variable, records_variable, whole_fixed}
-use Rattle.records.proofs.RecordPlaces.{count_fixed, place_fits, place_next, place_more, place_done, place_good, count_at, record_fixed, place_fixed}
+use Rattle.records.proofs.RecordPlaces.{count_fixed, place_next, place_more, place_done, place_good, count_at, record_fixed, place_fixed}
 use Rattle.records.proofs.RecordReplaced.{head_variable, head_fixed}
 
 -- a test that was made, on either side
-pub step_good : (s : List ℕ) (p q n : ℕ) → n ≡ word s p → q ≡ past_of p n → good_at s p ≡ true → Next q ≡ step_at s p
+pub step_good : (s : List ℕ) (p q n : ℕ) → n ≡ word s p → q ≡ past_of p n → good_at s p ≡ true → Some q ≡ step_at s p
 unfolding step_at
-step_good s p q n is e g = rw g (ap Next (e ∙ sym (next_is s p n is)))
+step_good s p q n is e g = rw g (ap Some (e ∙ sym (next_is s p n is)))
 
-pub step_bad : (s : List ℕ) (p : ℕ) → good_at s p ≡ false → Bad ≡ step_at s p
+pub step_bad : (s : List ℕ) (p : ℕ) → good_at s p ≡ false → None ≡ step_at s p
 unfolding step_at
 step_bad s p g = rw g
 
-pub next_good : (s : List ℕ) (p q : ℕ) → step_at s p ≡ Next q → (good_at s p ≡ true) × (q ≡ next_at s p)
+pub next_good : (s : List ℕ) (p q : ℕ) → step_at s p ≡ Some q → (good_at s p ≡ true) × (q ≡ next_at s p)
 unfolding step_at
 next_good s p q e = go (good_at s p) refl e
   where
-    go : (b : Bool) → good_at s p ≡ b → (if b then Next (next_at s p) else Bad) ≡ Next q → (good_at s p ≡ true) × (q ≡ next_at s p)
+    go : (b : Bool) → good_at s p ≡ b → (if b then Some (next_at s p) else None) ≡ Some q → (good_at s p ≡ true) × (q ≡ next_at s p)
     go true h e = (h, (cc))
     go false h e = absurd (let z : ◌≡◌ {A = ℕ} 0 1 = cc in omega arith)
 
-pub next_bad : (s : List ℕ) (p : ℕ) → step_at s p ≡ Bad → good_at s p ≡ false
+pub next_bad : (s : List ℕ) (p : ℕ) → step_at s p ≡ None → good_at s p ≡ false
 unfolding step_at
 next_bad s p e = go (good_at s p) refl e
   where
-    go : (b : Bool) → good_at s p ≡ b → (if b then Next (next_at s p) else Bad) ≡ Bad → good_at s p ≡ false
+    go : (b : Bool) → good_at s p ≡ b → (if b then Some (next_at s p) else None) ≡ None → good_at s p ≡ false
     go true h e = absurd (let z : ◌≡◌ {A = ℕ} 0 1 = cc in omega arith)
     go false h e = h
 
 -- the first e bytes of a mapped stream
+no_time : (a b : ℕ) → a ≡ 0 → a * b ≡ 0
+no_time a b z = rw z (zero-mul b)
+
+one_time : (a b : ℕ) → a ≡ 1 → a * b ≡ 0 → b ≡ 0
+one_time a b e z = sym (one-mul b) ∙ rw e at z
+
 module _ (img ss : List ℕ) (m : Mapped img ss) (e : ℕ) (fits : e ≤ 256 * length ss) where
   abbrev all_of : List ℕ
   all_of = laid_out img ss
@@ -81,7 +81,7 @@ module _ (img ss : List ℕ) (m : Mapped img ss) (e : ℕ) (fits : e ≤ 256 * l
   ]
 
   -- a step leads on, within the stream, by an even number of bytes
-  pub step_within : (p q : ℕ) → step_at (stream_in img ss e) p ≡ Next q → (p + 2 ≤ q) × (q ≤ e) × (q % 2 ≡ p % 2)
+  pub step_within : (p q : ℕ) → step_at (stream_in img ss e) p ≡ Some q → (p + 2 ≤ q) × (q ≤ e) × (q % 2 ≡ p % 2)
   step_within p q h =
       let g : (good_at (stream_in img ss e) p ≡ true) × (q ≡ next_at (stream_in img ss e) p) = next_good (stream_in img ss e) p q h in
       let f : Good (stream_in img ss e) p = Good-facts (stream_in img ss e) p g.0 in
@@ -92,7 +92,7 @@ module _ (img ss : List ℕ) (m : Mapped img ss) (e : ℕ) (fits : e ≤ 256 * l
     abbrev s : List ℕ
     s = stream_in img ss e
 
-    pub at_short : e < p + 2 → Bad ≡ step_at s p
+    pub at_short : e < p + 2 → None ≡ step_at s p
     at_short h = step_bad s p (good_short s p (omega (arith, length-stream_in)))
 
     module _ (n : ℕ) (is : n ≡ word all_of p) (room : p + 2 ≤ e) where
@@ -102,50 +102,41 @@ module _ (img ss : List ℕ) (m : Mapped img ss) (e : ℕ) (fits : e ≤ 256 * l
       room_s : p + 2 ≤ length s
       room_s = omega (arith, length-stream_in)
 
-      -- the record's end past that of the stream; or its count over x, which the code takes for the limit
-      abbrev past : Bool
-      past = ltb (e - p) (2 + n + n % 2)
+      -- a count over the limit; a record's end past that of the stream
+      pub at_large : record_limit < n → None ≡ step_at s p
+      at_large h = step_bad s p (good_large s p (omega (arith, here)))
 
-      too_large : record_limit < n → Bad ≡ step_at s p
-      too_large h = step_bad s p (good_large s p (omega (arith, here)))
+      pub at_past : e < p + (2 + n + n % 2) → None ≡ step_at s p
+      at_past h = step_bad s p (good_past s p n here room_s (omega (arith, length-stream_in)))
 
-      pub at_over : (x : ℕ) → ltb x n || ltb (e - p) (2 + n + n % 2) ≡ true → record_limit ≤ x → Bad ≡ step_at s p
-      at_over x h g = elim (dec_lt x n) [
-        | yes l ↦ too_large (omega arith)
-        | no l ↦
-            let o : e - p < 2 + n + n % 2 = ltb-true _ _ (or_cases (ltb x n) past (sym (or_is (ltb x n) past) ∙ h) (le-ltb x n (omega arith))) in
-            step_bad s p (good_past s p n here room_s (omega (arith, length-stream_in)))
-      ]
-
-      module _ (x : ℕ) (h : ltb x n || ltb (e - p) (2 + n + n % 2) ≡ false) where
-        neither : ltb x n or past ≡ false
-        neither = sym (or_is (ltb x n) past) ∙ h
-
-        pub at_ends : p + (2 + n + n % 2) ≤ e
-        at_ends = omega (arith, ltb-false (e - p) (2 + n + n % 2) (or_right (ltb x n) past neither))
+      module _ (few : n ≤ record_limit) (ends : p + (2 + n + n % 2) ≤ e) where
+        abbrev last : ℕ
+        last = byte all_of (p + (2 + n + n % 2) - 1)
 
         -- the byte before the record's end is its pad, where it has one
-        pad_is : n % 2 * byte s (p + 2 + n) ≡ n % 2 * byte all_of (p + (2 + n + n % 2) - 1)
+        pad_is : n % 2 * byte s (p + 2 + n) ≡ n % 2 * last
         pad_is = elim (ℕ_discrete (n % 2) 0) [
           | yes z ↦ simp (z, zero-mul)
           | no z ↦
               let q : p + (2 + n + n % 2) - 1 ≡ p + 2 + n = omega arith in
-              rw (q, byte-stream_in (p + 2 + n) (omega (arith, at_ends)))
+              rw (q, byte-stream_in (p + 2 + n) (omega arith))
         ]
 
-        good_as : n ≤ record_limit → good_at s p ≡ eqb (n % 2 * byte all_of (p + (2 + n + n % 2) - 1)) 0
-        good_as l = good_pads s p n here room_s (omega (arith, at_ends, length-stream_in)) l ∙ ap (λ (y : ℕ). eqb y 0) pad_is
+        good_as : good_at s p ≡ eqb (n % 2 * last) 0
+        good_as = good_pads s p n here room_s (omega (arith, length-stream_in)) few ∙ ap (λ (y : ℕ). eqb y 0) pad_is
 
-        pub at_pad : (n % 2 * byte all_of (p + (2 + n + n % 2) - 1) ≡ 0 → ⊥) → Bad ≡ step_at s p
-        at_pad g = elim (dec_lt record_limit n) [
-          | yes l ↦ too_large l
-          | no l ↦ step_bad s p (good_as (omega arith) ∙ ne_eqb _ _ g)
-        ]
+        pub at_pad : (n % 2 ≡ 0 → ⊥) → (last ≡ 0 → ⊥) → None ≡ step_at s p
+        at_pad odd g =
+            step_bad s p (good_as ∙ ne_eqb _ _ (λ z. g (one_time _ _ (omega arith) z)))
 
-        pub at_good : x ≤ record_limit → n % 2 * byte all_of (p + (2 + n + n % 2) - 1) ≡ 0 → Next (p + (2 + n + n % 2)) ≡ step_at s p
-        at_good l g =
-            let k : n ≤ x = ltb-false x n (or_left (ltb x n) past neither) in
-            step_good s p _ n here (omega arith) (good_as (omega arith) ∙ eq-eqb _ _ g)
+        at_good : n % 2 * last ≡ 0 → Some (p + (2 + n + n % 2)) ≡ step_at s p
+        at_good g = step_good s p _ n here (omega arith) (good_as ∙ eq-eqb _ _ g)
+
+        pub at_even : n % 2 ≡ 0 → Some (p + (2 + n + n % 2)) ≡ step_at s p
+        at_even z = at_good (no_time _ _ z)
+
+        pub at_padded : last ≡ 0 → Some (p + (2 + n + n % 2)) ≡ step_at s p
+        at_padded z = at_good (rw z (mul-zero (n % 2)))
 
 -- n records up to p: what is left is whole if the stream is, and has the other records
 pub record Walked (s : List ℕ) (p n : ℕ) : Type 0 where
@@ -155,31 +146,31 @@ pub record Walked (s : List ℕ) (p n : ℕ) : Type 0 where
 pub Walked-none : (s : List ℕ) → Walked s 0 0
 Walked-none s = record { rest = refl; count = omega arith }
 
-pub Walked-next : (s : List ℕ) (p n q : ℕ) → Walked s p n → step_at s p ≡ Next q → Walked s q (n + 1)
+pub Walked-next : (s : List ℕ) (p n q : ℕ) → Walked s p n → step_at s p ≡ Some q → Walked s q (n + 1)
 Walked-next s p n q w e =
     let g : (good_at s p ≡ true) × (q ≡ next_at s p) = next_good s p q e in
     record { rest = rw g.1 (sym (whole_good s p g.0) ∙ w.rest); count = rw g.1 (omega (arith, count_good s p g.0, w.count)) }
 
-counted_broken : (s : List ℕ) → whole 0 s ≡ false → Broken ≡ counted_of 0 s
+counted_broken : (s : List ℕ) → whole 0 s ≡ false → None ≡ counted_of 0 s
 unfolding counted_of
 counted_broken s h = rw (whole_variable s, h)
 
-pub Walked-bad : (s : List ℕ) (p n : ℕ) → Walked s p n → p < length s → step_at s p ≡ Bad → Broken ≡ counted_of 0 s
+pub Walked-bad : (s : List ℕ) (p n : ℕ) → Walked s p n → p < length s → step_at s p ≡ None → None ≡ counted_of 0 s
 Walked-bad s p n w h e = counted_broken s (sym w.rest ∙ whole_bad s p h (next_bad s p e))
 
-pub Walked-end : (s : List ℕ) (p n : ℕ) → Walked s p n → length s ≤ p → Whole n ≡ counted_of 0 s
+pub Walked-end : (s : List ℕ) (p n : ℕ) → Walked s p n → length s ≤ p → Some n ≡ counted_of 0 s
 unfolding counted_of
 Walked-end s p n w h =
     let c : n ≡ length (cut 0 s) = omega (arith, w.count, ap length (cut_end s p h)) in
-    rw (whole_variable s, sym w.rest ∙ whole_end s p h, records_variable s) (ap Whole c)
+    rw (whole_variable s, sym w.rest ∙ whole_end s p h, records_variable s) (ap Some c)
 
 -- fixed records are counted by their length
 module _ (l : ℕ) (s : List ℕ) (some : 0 < l) (e : ℕ) (long : length s ≡ e) where
-  pub fixed_whole : e % l ≡ 0 → Whole (e / l) ≡ counted_of l s
+  pub fixed_whole : e % l ≡ 0 → Some (e / l) ≡ counted_of l s
   unfolding counted_of
   fixed_whole h = rw (whole_fixed l s some, count_fixed l s some, long, eq-eqb (e % l) 0 h)
 
-  pub fixed_broken : (e % l ≡ 0 → ⊥) → Broken ≡ counted_of l s
+  pub fixed_broken : (e % l ≡ 0 → ⊥) → None ≡ counted_of l s
   unfolding counted_of
   fixed_broken h = rw (whole_fixed l s some, long, ne_eqb (e % l) 0 h)
 
@@ -188,21 +179,18 @@ module _ (s : List ℕ) (b : Bytes s) (w : whole_records 0 s ≡ true) (i k p : 
   more : p < length s → k < length (records_of 0 s)
   more h = place_more 0 s b zero-le w k few (omega arith)
 
-  pub found_fits : p ≤ length s
-  found_fits = omega (arith, place_fits 0 s b zero-le w k)
-
   pub found_next : (n : ℕ) → n ≡ word s p → p < length s → (p + 2 + n + n % 2 ≡ place_of 0 s (k + 1)) × (k + 1 ≤ length (records_of 0 s))
   found_next n is h =
       let z : k + 1 ≡ suc k = omega arith in
       (rw z (sym (place_next s b w k (more h) ∙ next_is s (place_of 0 s k) n (is ∙ ap (word s) at) ∙ ap (λ (x : ℕ). past_of x n) (sym at))), omega (arith, more h))
 
-  pub found_past : k ≤ i → length s ≤ p → Past ≡ spot_of 0 s i
+  pub found_past : k ≤ i → length s ≤ p → None ≡ spot_of 0 s i
   unfolding spot_of
   found_past h g =
       let e : k ≡ length (records_of 0 s) = place_done 0 s b zero-le w k few (omega arith) in
       rw (le-ltb i (length (records_of 0 s)) (omega arith))
 
-  pub found_at : (n : ℕ) → n ≡ word s p → k ≡ i → p < length s → At (p + 2) n ≡ spot_of 0 s i
+  pub found_at : (n : ℕ) → n ≡ word s p → k ≡ i → p < length s → Some (record { from = p + 2; len = n }) ≡ spot_of 0 s i
   unfolding spot_of
   found_at n is e h =
       let r : i < length (records_of 0 s) = omega (arith, more h) in
@@ -242,10 +230,10 @@ module _ (img ss : List ℕ) (m : Mapped img ss) (e : ℕ) (fits : e ≤ 256 * l
         let f = found_next t bs w i k p at few n word_here (omega (arith, long)) in
         (omega (arith, f.0), f.1, omega (arith, rw (← word_here) at (room h)))
 
-    pub finds_at : k ≡ i → At (p + 2) n ≡ spot_of 0 (stream_in img ss e) i
+    pub finds_at : k ≡ i → Some (record { from = p + 2; len = n }) ≡ spot_of 0 (stream_in img ss e) i
     finds_at q = found_at t bs w i k p at few n word_here q (omega (arith, long))
 
-  pub finds_past : k ≤ i → e ≤ p → Past ≡ spot_of 0 (stream_in img ss e) i
+  pub finds_past : k ≤ i → e ≤ p → None ≡ spot_of 0 (stream_in img ss e) i
   finds_past h g = found_past t bs w i k p at few h (omega (arith, long))
 
 -- fixed records stand side by side
@@ -253,7 +241,7 @@ module _ (l : ℕ) (s : List ℕ) (some : 0 < l) (i e : ℕ) (long : length s �
   inside : i < e / l → l * i + l ≤ e
   inside h = omega (arith, mul-suc l i, mul-le-mul_left l h, div-add-mod e l)
 
-  pub spot_fixed : l ≤ record_limit → whole_records l s ≡ true → i < e / l → (At (l * i) l ≡ spot_of l s i) × (l * i + l ≤ e)
+  pub spot_fixed : l ≤ record_limit → whole_records l s ≡ true → i < e / l → (Some (record { from = l * i; len = l }) ≡ spot_of l s i) × (l * i + l ≤ e)
   unfolding spot_of part
   spot_fixed m w h =
       let r : length (records_of l s) ≡ e / l = count_fixed l s some ∙ ap (λ (x : ℕ). x / l) long in
@@ -263,7 +251,7 @@ module _ (l : ℕ) (s : List ℕ) (some : 0 < l) (i e : ℕ) (long : length s �
       let z : l * i + head_of l ≡ l * i = omega (arith, head_fixed l some) in
       (rw (lt-ltb i (length (records_of l s)) (omega arith), c, place_fixed l s i some m w (omega arith), z), n)
 
-  pub past_fixed : e / l ≤ i → Past ≡ spot_of l s i
+  pub past_fixed : e / l ≤ i → None ≡ spot_of l s i
   unfolding spot_of
   past_fixed h =
       let r : length (records_of l s) ≡ e / l = count_fixed l s some ∙ ap (λ (x : ℕ). x / l) long in

@@ -8,15 +8,15 @@ use crate::chunks::write_stream;
 use lists::parts::put_word;
 
 /// How long the record r is in the stream of a file of record length l, 0 for variable ones.
+#[tactic(auto, using(crate::proofs::RecordReplaced::length_variable, crate::proofs::StreamWrites::encoded_fixed))]
 pub fn encoded_length(l: usize, r: &[u8]) -> usize
     requires { length r.now ≤ record_limit }
     ensures { result ≡ length (encoded l r.now) }
 {
-    let n = r.len();
     if l == 0 {
-        return 2 + n + n % 2;
+        return 2 + r.len() + r.len() % 2;
     }
-    n
+    r.len()
 }
 
 // A count word, the data, and a zero byte if the count is odd.
@@ -24,14 +24,11 @@ fn write_variable(img: &mut [u8], map: &[u16], p: usize, r: &[u8])
     requires { Spread img.old map.now × (length r.now < 65536) × (p + length (encoded 0 r.now) ≤ 256 * length map.now) }
     ensures { img.new ≡ written_at img.old map.now p (encoded 0 r.now) }
 {
-    let n = r.len();
-    let odd = n % 2;
     let mut head = [0u8; 2];
-    put_word(&mut head, 0, n);
+    put_word(&mut head, 0, r.len());
     write_stream(img, map, p, &head);
     write_stream(img, map, p + 2, r);
-    let pad = [0u8; 1];
-    write_stream(img, map, p + 2 + n, &pad[..odd]);
+    write_stream(img, map, p + 2 + r.len(), &[0][..r.len() % 2]);
 }
 
 /// Writes the record r of a file of record length l, 0 for variable ones, to the stream at p.

@@ -15,10 +15,6 @@ pub rest_none : (k : ℕ) → k ≡ 0 → rest k ≡ []
 unfolding rest
 rest_none k e = rw e
 
-pub rest-one : (k b : ℕ) → k ≡ 1 → b ≡ space → rest k ≡ b ∷ []
-unfolding rest
-rest-one k b e q = rw (e, q)
-
 pub rest_more : (k : ℕ) → 2 ≤ k → rest k ≡ (mark + k) ∷ []
 unfolding rest
 rest_more k h = rw (ne_eqb k 0 (λ e. omega arith), ne_eqb k 1 (λ e. omega arith))
@@ -34,10 +30,6 @@ goes_space k h = rw (ne_eqb k most_spaces h)
 pub goes_other : (k b : ℕ) → b ≢ space → goes_out k b ≡ rest k ++ (b ∷ [])
 unfolding goes_out
 goes_other k b h = rw (ne_eqb b space h)
-
-pub held_full : (k : ℕ) → k ≡ most_spaces → held_after k space ≡ 1
-unfolding held_after
-held_full k e = rw e
 
 pub held_space : (k : ℕ) → k ≢ most_spaces → held_after k space ≡ k + 1
 unfolding held_after

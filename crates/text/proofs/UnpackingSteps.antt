@@ -5,7 +5,9 @@ use Prim.Native.Nat.{ℕ, ◌+◌, ◌-◌, ◌<◌, ◌≤◌}
 use native.Mathlib.Decide.{dec_lt}
 use native.Mathlib.Numerals.{add-one}
 use native.Mathlib.Omega.{arith}
-use lib.ListN.{length, get_or, drop, drop_of_length-le, replicate, length-replicate}
+use Rattle.std.specs.List.{sum_by}
+use Rattle.std.proofs.lemmas.List.Sums.{sum_by-cons}
+use lib.ListN.{length, length-append, get_or, drop, drop_of_length-le, replicate, length-replicate}
 use lib.Seq.{drop-cons}
 use borrow.Author.Tests.{lt-ltb, le-ltb}
 use Rattle.text.specs.Packing.{space, mark, most_spaces, shown, unpacked}
@@ -47,3 +49,9 @@ module _ (s : List ℕ) (i : ℕ) where
   pub unpacked_end : length s ≤ i → unpacked (drop i s) ≡ []
   unfolding unpacked
   unpacked_end h = rw (drop_of_length-le s h)
+
+-- how long a text is, counted byte by byte
+pub length_unpacked : (s : List ℕ) → length (unpacked s) ≡ sum_by (λ b. length (shown b)) s
+unfolding unpacked
+length_unpacked [] = refl
+length_unpacked (b ∷ s) = simp (length-append, sum_by-cons) (rw (length_unpacked s))

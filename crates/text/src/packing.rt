@@ -1,7 +1,9 @@
 // A text, tested and packed: bytes below $80, with runs of spaces held back until their length is known.
+#![tactic(auto, unfolding(crate::specs::Packing::rest, crate::specs::Packing::goes_out, crate::specs::Packing::held_after))]
+
 ghost use Rattle.std.specs.Prelude.{◌≡◌, [], ◌∷◌, ◌+◌, ◌≤◌, length};
 ghost use Rattle.lists.specs.Parts.{put, over};
-ghost use Rattle.text.specs.Packing.{space, most_spaces, is_text, rest, goes_out, held_after, packed};
+ghost use Rattle.text.specs.Packing.{most_spaces, is_text, rest, goes_out, held_after, packed};
 
 use crate::{FULL, MARK, MOST_SPACES};
 
@@ -9,14 +11,7 @@ use crate::{FULL, MARK, MOST_SPACES};
 pub fn is_text(bytes: &[u8]) -> bool
     ensures { result ≡ is_text bytes.now }
 {
-    let mut i = 0;
-    while i < bytes.len() {
-        if MARK <= bytes[i] {
-            return false;
-        }
-        i += 1;
-    }
-    true
+    bytes.iter().all(|b| *b < MARK)
 }
 
 // The one byte that k spaces go out as.
@@ -24,13 +19,11 @@ fn rest_byte(k: usize) -> u8
     requires { (1 ≤ k) × (k ≤ most_spaces) }
     ensures { rest k ≡ result ∷ [] }
 {
-    if k == 1 {
-        return b' ';
-    }
-    MARK + k as u8
+    // Stays: `k as u8`: k is at most 127, and `u8::try_from` has an error that no call could meet.
+    if k == 1 { b' ' } else { MARK + k as u8 }
 }
 
-// Writes the rest of a run at n. This and the next two hand back the place after what they wrote.
+// Writes the rest of a run of k spaces at n. This and the next hand back the place after what they wrote.
 fn put_rest(out: &mut [u8], n: usize, k: usize) -> usize
     requires { (k ≤ most_spaces) × (n + length (rest k) ≤ length out.old) }
     ensures { (result ≡ n + length (rest k)) × (out.new ≡ put n (rest k) out.old) }
@@ -42,29 +35,21 @@ fn put_rest(out: &mut [u8], n: usize, k: usize) -> usize
     n + 1
 }
 
-// One more space: of 127 that are held, $FF goes out.
-fn put_full(out: &mut [u8], n: usize, k: usize) -> usize
-    requires { n + length (goes_out k space) ≤ length out.old }
-    ensures { (result ≡ n + length (goes_out k space)) × (out.new ≡ put n (goes_out k space) out.old) }
-{
-    if k == MOST_SPACES {
-        out[n] = FULL;
-        return n + 1;
-    }
-    n
-}
-
-// k spaces are held back, and the byte b comes.
+// k spaces are held back, and the byte b comes: of 127 spaces that are held and one more, $FF goes out.
 fn put_step(out: &mut [u8], n: usize, k: usize, b: u8) -> usize
     requires { (k ≤ most_spaces) × (n + length (goes_out k b) ≤ length out.old) }
     ensures { (result ≡ n + length (goes_out k b)) × (out.new ≡ put n (goes_out k b) out.old) }
 {
-    if b == b' ' {
-        return put_full(out, n, k);
+    if b != b' ' {
+        let m = put_rest(out, n, k);
+        out[m] = b;
+        return m + 1;
     }
-    let m = put_rest(out, n, k);
-    out[m] = b;
-    m + 1
+    if k < MOST_SPACES {
+        return n;
+    }
+    out[n] = FULL;
+    n + 1
 }
 
 // How many spaces are held back then.
@@ -72,13 +57,11 @@ fn held_after(k: usize, b: u8) -> usize
     requires { k ≤ most_spaces }
     ensures { (result ≡ held_after k b) × (result ≤ most_spaces) }
 {
-    if b != b' ' {
-        return 0;
+    match b {
+        b' ' if k == MOST_SPACES => 1,
+        b' ' => k + 1,
+        _ => 0,
     }
-    if k == MOST_SPACES {
-        return 1;
-    }
-    k + 1
 }
 
 /// Writes the packed text to the front of `out`, and hands back its length.
@@ -89,12 +72,9 @@ pub fn pack(bytes: &[u8], out: &mut [u8]) -> usize
 {
     let mut n = 0;
     let mut k = 0;
-    let mut i = 0;
-    while i < bytes.len() {
-        let b = bytes[i];
-        n = put_step(out, n, k, b);
-        k = held_after(k, b);
-        i += 1;
+    for b in bytes {
+        n = put_step(out, n, k, *b);
+        k = held_after(k, *b);
     }
     put_rest(out, n, k)
 }

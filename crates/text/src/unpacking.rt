@@ -1,19 +1,17 @@
 // A packed text, unpacked: each stored byte gives itself, or spaces.
+#![tactic(auto, unfolding(crate::specs::Packing::shown))]
+
 ghost use Rattle.std.specs.Prelude.{◌≡◌, ◌+◌, ◌*◌, ◌≤◌, length};
 ghost use Rattle.lists.specs.Parts.{put, over};
 ghost use Rattle.text.specs.Packing.{most_spaces, shown, unpacked};
 
 use crate::MARK;
-use lists::parts::{fill, wide};
 
 // How many bytes of text a stored byte stands for.
 fn shown_length(b: u8) -> usize
     ensures { (result ≡ length (shown b)) × (result ≤ most_spaces) }
 {
-    if b < MARK {
-        return 1;
-    }
-    wide(b - MARK)
+    if b < MARK { 1 } else { usize::from(b - MARK) }
 }
 
 // Hands back the place after what it wrote.
@@ -25,8 +23,8 @@ fn put_shown(buffer: &mut [u8], n: usize, b: u8) -> usize
         buffer[n] = b;
         return n + 1;
     }
-    let e = n + shown_length(b);
-    fill(&mut buffer[n..e], b' ');
+    let e = n + usize::from(b - MARK);
+    buffer[n..e].fill(b' ');
     e
 }
 
@@ -35,13 +33,7 @@ pub fn text_length(stored: &[u8]) -> usize
     requires { length stored.now ≤ 65536 }
     ensures { (result ≡ length (unpacked stored.now)) × (result ≤ most_spaces * length stored.now) }
 {
-    let mut n = 0;
-    let mut i = 0;
-    while i < stored.len() {
-        n += shown_length(stored[i]);
-        i += 1;
-    }
-    n
+    stored.iter().map(|b| shown_length(*b)).sum()
 }
 
 /// Writes the text to the front of the buffer.
@@ -50,9 +42,7 @@ pub fn unpack(stored: &[u8], buffer: &mut [u8])
     ensures { buffer.new ≡ over (unpacked stored.now) buffer.old }
 {
     let mut n = 0;
-    let mut i = 0;
-    while i < stored.len() {
-        n = put_shown(buffer, n, stored[i]);
-        i += 1;
+    for b in stored {
+        n = put_shown(buffer, n, *b);
     }
 }

@@ -1,55 +1,69 @@
-// The service's calls, by the command that asks for them.
-use crate::script;
-use crate::script::Call;
+// The service's calls, as a script asks for them.
+use crate::script::{Change, Question, Target};
 use desk::{Desk, Reply};
 
-/// A call that may change the image; `data` is the bytes that its line brought. What is no other call is an update.
-pub(crate) fn change(d: Desk, image: &mut [u8], call: Call, data: &[u8]) -> Reply {
-    let command = call.command;
-    match command {
-        script::FORMAT => d.format(image, data, call.two),
-        script::BRING_UP => d.bring_up(image),
-        script::COMPACT => d.compact(image, call.one),
-        script::ALLOCATE => d.allocate(
-            image, call.one, data, call.three, call.four, call.five, call.code,
-        ),
-        script::DELETE => d.delete(image, call.one, data),
-        script::WRITE | script::WRITE_TEXT => d.write(
+/// Carries out a call that may change the image.
+pub(crate) fn change(d: Desk, image: &mut [u8], call: &Change) -> Reply {
+    match call {
+        Change::Format { id, dirs } => d.format(image, id, *dirs),
+        Change::BringUp => d.bring_up(image),
+        Change::Compact { quota } => d.compact(image, *quota),
+        Change::Allocate {
+            caller,
+            descriptor,
+            kind,
+            size,
+            record,
+            code,
+        } => d.allocate(image, *caller, descriptor, *kind, *size, *record, *code),
+        Change::Delete { caller, descriptor } => d.delete(image, *caller, descriptor),
+        Change::Write { target: t, sent } => d.write(
             image,
-            call.one,
-            call.two,
-            call.three,
-            call.four,
-            call.formatted,
-            data,
+            t.caller,
+            t.lun,
+            t.selector,
+            t.number,
+            t.formatted,
+            sent,
         ),
-        _ => d.update(
+        Change::Update { target: t, sent } => d.update(
             image,
-            call.one,
-            call.two,
-            call.three,
-            call.four,
-            call.formatted,
-            data,
+            t.caller,
+            t.lun,
+            t.selector,
+            t.number,
+            t.formatted,
+            sent,
         ),
     }
 }
 
-/// A call that only looks at the image. What is no other call is a rewind.
-pub(crate) fn ask(d: Desk, image: &[u8], call: Call, data: &[u8]) -> Reply {
-    let command = call.command;
-    match command {
-        script::CHECK => d.check(image),
-        script::ASSIGN => d.assign(
-            image,
-            call.one,
-            call.two,
-            data,
-            call.four,
-            call.five == 1,
-            call.code,
-        ),
-        script::CLOSE => d.close(image, call.one, call.two),
-        _ => d.rewind(image, call.one, call.two),
+/// Carries out a call that only looks at the image.
+pub(crate) fn ask(d: Desk, image: &[u8], call: &Question) -> Reply {
+    match call {
+        Question::Check => d.check(image),
+        Question::Assign {
+            caller,
+            lun,
+            descriptor,
+            mode,
+            at_end,
+            offered,
+        } => d.assign(image, *caller, *lun, descriptor, *mode, *at_end, *offered),
+        Question::Close { caller, lun } => d.close(image, *caller, *lun),
+        Question::Rewind { caller, lun } => d.rewind(image, *caller, *lun),
     }
+}
+
+/// Reads into the buffer.
+pub(crate) fn read(d: Desk, image: &[u8], t: Target, buffer: &mut [u8]) -> Reply {
+    d.read(
+        image,
+        t.caller,
+        t.lun,
+        t.selector,
+        t.number,
+        t.formatted,
+        buffer,
+    )
 }

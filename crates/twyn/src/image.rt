@@ -1,29 +1,52 @@
-// The image's bytes: copied and summed.
-use crate::print::least;
+// The image's bytes: made, changed and summed.
+ghost use Rattle.std.specs.Prelude.{◌≡◌, length, IfNone, OnSome};
+ghost use Rattle.arrayvec.specs.ArrayVec.{array_vec_len};
 
-/// Puts all of `s` into `image` from `at` on, and answers whether it lies inside.
-pub(crate) fn poke(image: &mut [u8], at: usize, s: &[u8]) -> bool {
-    let from = least(at, image.len());
-    if image.len() - from < s.len() {
-        return false;
+use arrayvec::ArrayVec;
+
+/// The most bytes of an image.
+pub(crate) const IMAGE_LIMIT: usize = 524544;
+
+/// An image, in room for the longest one.
+pub(crate) type Image = ArrayVec<u8, IMAGE_LIMIT>;
+
+/// Makes the image `size` zeros; `None` if it has no room for them, and it then stays as it was.
+pub(crate) fn clear(image: &mut Image, size: u32) -> Option<()>
+    ensures made { OnSome result (array_vec_len image.new ≡ size) }
+    ensures full { IfNone result (image.new ≡ image.old) }
+{
+    let size = size as usize;
+    if IMAGE_LIMIT < size {
+        return None;
     }
-    let mut i = 0;
-    while i < s.len() {
-        image[from + i] = s[i];
-        i += 1;
+    image.clear();
+    for _ in 0..size {
+        image.push(0);
     }
-    from == at
+    Some(())
+}
+
+/// Puts all of `s` into the image from `at` on; `None` if it would end past the image's end, and the image then stays as it was.
+pub(crate) fn poke(image: &mut [u8], at: u32, s: &[u8]) -> Option<()>
+    ensures outside { IfNone result (image.new ≡ image.old) }
+    ensures len { length image.new ≡ length image.old }
+{
+    let from = at as usize;
+    let to = from + s.len();
+    if image.len() < to {
+        return None;
+    }
+    image[from..to].copy_from_slice(s);
+    Some(())
 }
 
 /// Adler-32 (RFC 1950, 8.2).
 pub(crate) fn adler(s: &[u8]) -> u32 {
-    let mut a: u32 = 1;
-    let mut b: u32 = 0;
-    let mut i = 0;
-    while i < s.len() {
-        a = (a + s[i] as u32) % 65521;
+    let mut a = 1;
+    let mut b = 0;
+    for &byte in s {
+        a = (a + u32::from(byte)) % 65521;
         b = (b + a) % 65521;
-        i += 1;
     }
     b * 65536 + a
 }

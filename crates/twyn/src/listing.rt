@@ -1,76 +1,86 @@
 // The desk and the volume as they are printed.
-use crate::print::{Text, within};
+use crate::print;
 use desk::Desk;
 use deskbytes::DESK_BYTES;
 use luns::{Lun, Place};
-use numbers::{LUNS, MOST_SECTORS};
+use numbers::MOST_SECTORS;
 use picture::draw;
+use std::{fmt, io};
 
-fn place(t: Text, p: Place) -> Text {
-    match p {
-        Place::Fresh => t.word(b"fresh"),
-        Place::At { i, n } => t.word(b"at").number(i as u64).number(n as u64),
+// A LUN, as it is listed.
+#[derive(Clone, Copy)]
+struct Unit(Lun);
+
+impl fmt::Display for Unit {
+    fn fmt<W: fmt::Write>(&self, f: &mut fmt::Formatter<W>) -> fmt::Result {
+        let u = self.0;
+        if !u.held {
+            return write!(f, "free");
+        }
+        write!(
+            f,
+            "{} {} {} {} ",
+            u.user,
+            u.slot,
+            u.mode.number(),
+            u.offered
+        )?;
+        match u.place {
+            Place::Fresh => write!(f, "fresh"),
+            Place::At { i, n } => write!(f, "at {i} {n}"),
+        }
     }
 }
 
-fn unit(t: Text, u: Lun) -> Text {
-    if !u.held {
-        return t.word(b"free");
-    }
-    let m = u.mode;
-    let p = u.place;
-    place(
-        t.number(u.user as u64)
-            .number(u.slot as u64)
-            .number(m.number() as u64)
-            .number(u.offered as u64),
-        p,
-    )
-}
+/// The sixteen LUNs of a desk, as they are listed.
+#[derive(Clone, Copy)]
+pub(crate) struct Units(pub(crate) Desk);
 
-/// The sixteen LUNs.
-pub(crate) fn desk(d: Desk) -> Text {
-    let first = d.luns[0];
-    let mut t = unit(Text::empty(), first);
-    let mut i = 1;
-    while i < LUNS {
-        let u = d.luns[i];
-        t = unit(t.word(b"|"), u);
-        i += 1;
+impl fmt::Display for Units {
+    fn fmt<W: fmt::Write>(&self, f: &mut fmt::Formatter<W>) -> fmt::Result {
+        for (i, unit) in self.0.luns.iter().enumerate() {
+            let divider = if i == 0 { "" } else { " | " };
+            write!(f, "{divider}{}", Unit(*unit))?;
+        }
+        Ok(())
     }
-    t
 }
 
 /// The desk in its packed form.
 pub(crate) fn packed(d: Desk) -> [u8; DESK_BYTES] {
-    let luns = d.luns;
-    let mut bytes = [0u8; DESK_BYTES];
-    deskbytes::pack(luns, &mut bytes);
+    let mut bytes = [0; DESK_BYTES];
+    deskbytes::pack(d.luns, &mut bytes);
     bytes
 }
 
 // Sectors of a row.
 const ROW: usize = 64;
 
-// The letters in rows. The end of the last row is the printed line's own.
-fn rows(letters: &[u8]) -> Text {
-    let mut t = Text::empty();
-    let mut from = 0;
-    while ROW < letters.len() - from {
-        let to = from + ROW;
-        t = t.add(&letters[from..to], b'\n');
-        from = to;
+// Letters, in rows. The end of the last row is the printed line's own.
+#[derive(Clone, Copy, Debug, PartialEq, Eq)]
+struct Rows<'a>(&'a [u8]);
+
+impl fmt::Display for Rows<'_> {
+    fn fmt<W: fmt::Write>(&self, f: &mut fmt::Formatter<W>) -> fmt::Result {
+        for (k, row) in self.0.chunks(ROW).enumerate() {
+            if k != 0 {
+                writeln!(f)?;
+            }
+            for letter in row {
+                write!(f, "{}", char::from(*letter))?;
+            }
+        }
+        Ok(())
     }
-    t.add(&letters[from..], b'\n')
 }
 
-/// The volume, a letter a sector; of one that is not sound only that.
-pub(crate) fn map(image: &[u8]) -> Text {
-    let mut letters = [0u8; MOST_SECTORS];
-    let drawn = draw(image, &mut letters);
+/// Prints the volume, a letter a sector; of one that is not sound only that.
+pub(crate) fn print_map(rt: &HostRuntime, image: &[u8]) -> io::Result<()> {
+    // Stays: a room with the number of letters beside it, as `draw` fills it.
+    let mut letters = [0; MOST_SECTORS];
+    let drawn = draw(image, &mut letters).min(MOST_SECTORS);
     if drawn == 0 {
-        return Text::empty().word(b"6F").number(0);
+        return print::line(rt, "6F 0");
     }
-    let n = within(drawn, &letters);
-    rows(&letters[..n])
+    print::line(rt, Rows(&letters[..drawn]))
 }

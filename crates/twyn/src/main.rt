@@ -14,54 +14,50 @@ mod session;
 mod store;
 mod words;
 
+use image::Image;
+use print::{Stopped, say};
 use session::Session;
 use std::env::FillError;
 use std::rt::Env;
 use std::str;
-use store::{IMAGE_LIMIT, PATH_LIMIT, Room};
+use store::PATH_LIMIT;
 
-// Writes the image back if the script changed it.
-fn keep(rt: &HostRuntime, name: &str, path: &str, whole: &[u8], s: Session) {
-    if (path.len() == 0) | s.broken | !s.changed {
-        return;
+// Runs the script on an empty image, which is kept nowhere.
+fn run_unnamed(rt: &HostRuntime) -> Result<(), Stopped> {
+    let mut image = Image::new();
+    let mut s = Session::new(None);
+    input::run(rt, &mut image, &mut s)
+}
+
+// Reads the image, runs the script, and writes the image back if the script changed it.
+fn run_named(rt: &HostRuntime, path: &str) -> Result<(), Stopped> {
+    let mut image = Image::new();
+    store::load(rt, path, &mut image)?;
+    let name = store::new_name(path);
+    let mut s = Session::new(Some(name.as_str()));
+    input::run(rt, &mut image, &mut s)?;
+    if s.has_changed() {
+        store::save(rt, name.as_str(), path, &image)?;
     }
-    let n = print::within(s.size, whole);
-    store::save(rt, name, path, &whole[..n]);
+    Ok(())
 }
 
-// Reads the image, runs the script and keeps what it made. An empty path names no file.
-fn run(rt: &HostRuntime, path: &str, whole: &mut Room) {
-    let l = store::load(rt, path, whole);
-    let new = store::new_name(path);
-    let name = new.as_str();
-    let s = input::run(
-        rt,
-        name,
-        whole,
-        session::start(l.ok, l.size, path.len() == 0),
-    );
-    keep(rt, name, path, whole, s);
-}
-
-// A file's name is text here.
-fn run_named(rt: &HostRuntime, path: &[u8], whole: &mut Room) {
+// An empty name names no file. A file's name is text here.
+fn run(rt: &HostRuntime, path: &[u8]) -> Result<(), Stopped> {
     match str::from_utf8(path) {
-        Ok(path) => run(rt, path, whole),
-        Err(_) => print::say(rt, "twyn: the image's name is not UTF-8: nothing is done"),
+        Ok("") => run_unnamed(rt),
+        Ok(path) => run_named(rt, path),
+        Err(_) => Err(say(rt, "twyn: the image's name is not UTF-8: nothing is done")),
     }
-}
-
-// The zeros are made in a function of their own: its result's length is known by its type, and nobody has to count half a million.
-fn room() -> Room {
-    [0; IMAGE_LIMIT]
 }
 
 fn main(rt: HostRuntime) {
-    let mut whole = room();
     let mut path = [0; PATH_LIMIT];
-    match rt.arg(1, &mut path) {
-        Ok(n) => run_named(&rt, &path[..n], &mut whole),
-        Err(FillError::NotPresent) => run(&rt, "", &mut whole),
-        Err(FillError::TooLong) => print::say(&rt, "image: File name too long"),
-    }
+    let ran = match rt.arg(1, &mut path) {
+        Ok(n) => run(&rt, &path[..n]),
+        Err(FillError::NotPresent) => run_unnamed(&rt),
+        Err(FillError::TooLong) => Err(say(&rt, "image: File name too long")),
+    };
+    // Why the run was stopped has been said.
+    let _ = ran;
 }

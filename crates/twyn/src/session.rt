@@ -1,283 +1,207 @@
 // A running script: what it has brought about so far, and what each command does to it.
-use crate::print::Text;
+use crate::answers::Told;
+use crate::image::Image;
+use crate::print::{Hex, Stopped, UNREADABLE};
 use crate::requests::Outcome;
-use crate::script::Call;
-use crate::store::Room;
-use crate::{answers, calls, image, listing, print, requests, script, store};
-use desk::answers::accepts;
+use crate::script::{Areas, Change, Command, Question, Target};
+use crate::words::ParseError;
+use crate::{calls, image, listing, print, requests, store};
 use desk::{Desk, Reply};
-use lists::parts::clear;
 use numbers::RECORD_LIMIT;
 use std::io;
 
-/// The desk, the image's length, and whether the image was changed; whether it is known that it can be written back; whether the
-/// run is broken, so that nothing is written back; and the line that is to be printed.
+/// A script that runs.
 #[derive(Clone, Copy)]
-pub(crate) struct Session {
-    pub(crate) desk: Desk,
-    pub(crate) size: usize,
-    pub(crate) changed: bool,
-    pub(crate) ready: bool,
-    pub(crate) broken: bool,
-    pub(crate) line: Text,
-}
-
-/// A session over an image of `size` bytes, if it is `ok`. `ready`: nothing is to be written back.
-pub(crate) fn start(ok: bool, size: usize, ready: bool) -> Session {
-    let d = Desk::empty();
-    let t = Text::empty();
-    Session {
-        desk: d,
-        size: size,
-        changed: false,
-        ready: ready,
-        broken: !ok,
-        line: t,
-    }
-}
-
-// With this line to print.
-fn said(s: Session, t: Text) -> Session {
-    let mut u = s;
-    u.line = t;
-    u
-}
-
-// The run goes on if all was printed. If not it is broken, and why is said.
-fn printed(rt: &HostRuntime, s: Session, written: io::Result<()>) -> Session {
-    match written {
-        Ok(()) => s,
-        Err(e) => {
-            print::fail(rt, "standard output", e);
-            let mut t = s;
-            t.broken = true;
-            t
-        }
-    }
-}
-
-// With a call's desk, and its answer to print.
-fn replied(s: Session, r: Reply) -> Session {
-    let d = r.desk;
-    let a = r.answer;
-    let mut t = said(s, answers::line(a));
-    t.desk = d;
-    t
-}
-
-// `new`: the image, which is as long as was asked, is zeros, and the desk is empty.
-fn fresh(image: &mut [u8], s: Session, n: u32) -> Session {
-    if n as usize != s.size {
-        return s;
-    }
-    clear(image);
-    let d = Desk::empty();
-    let mut t = said(s, Text::empty().word(b"new").number(n as u64));
-    t.desk = d;
-    t.changed = true;
-    t
-}
-
-fn poke(image: &mut [u8], s: Session, at: u32, data: &[u8]) -> Session {
-    if !image::poke(image, at as usize, data) {
-        return s;
-    }
-    let mut t = said(s, Text::empty().word(b"poke"));
-    t.changed = true;
-    t
-}
-
-// A call that may change the image.
-fn serve(image: &mut [u8], s: Session, call: Call, data: &[u8]) -> Session {
-    let d = s.desk;
-    let r = calls::change(d, image, call, data);
-    let a = r.answer;
-    let mut t = replied(s, r);
-    t.changed = s.changed | accepts(a);
-    t
-}
-
-// With a request's line to print. One that was carried out counts as a change of the image, whatever it asked for.
-fn requested(s: Session, o: Outcome) -> Session {
-    let line = o.line;
-    let mut t = said(s, line);
-    t.changed = s.changed | o.done;
-    t
-}
-
-// `iocb`: the desk is lent in its packed form, and what that is after the request is the script's desk.
-fn request(image: &mut [u8], s: Session, call: Call) -> Session {
-    let d = s.desk;
-    let lent = call.lent;
-    let mut bytes = listing::packed(d);
-    let o = requests::run(image, &mut bytes, false, call.one, lent);
-    let after = front::desks::open(&bytes);
-    let mut t = requested(s, o);
-    t.desk = after;
-    t
-}
-
-// `iocb-with`: the line brings the desk bytes, and the script's desk is left.
-fn request_with(image: &mut [u8], s: Session, call: Call) -> Session {
-    let lent = call.lent;
-    let mut bytes = call.data;
-    let n = print::within(call.count, &bytes);
-    requested(
-        s,
-        requests::run(image, &mut bytes[..n], true, call.two, lent),
-    )
+pub(crate) struct Session<'a> {
+    desk: Desk,
+    /// Whether the image was changed.
+    changed: bool,
+    /// The file that the image would be written to first, as long as it is not known that it can be made.
+    untried: Option<&'a str>,
 }
 
 // The longest buffer that a script may read into. It holds the longest text that can be stored: as many bytes of $FF as a record may
 // have, 127 spaces each.
 const LONGEST: usize = 128 * RECORD_LIMIT;
 
-// A buffer as it is before a read, made in a function of its own as the room for the image is.
+// A buffer as it is before a read, made in a function of its own: its result's length is known by its type.
 fn blank() -> [u8; LONGEST] {
     [0xEE; LONGEST]
 }
 
-// Reads into the front of the buffer, as many bytes as the line asks for, and prints the answer and that front, refused or not.
-// Only the line's end is left to print.
-fn read_into(rt: &HostRuntime, image: &[u8], s: Session, call: Call, buffer: &mut [u8]) -> Session {
-    let asked = call.five as usize;
-    let n = print::within(asked, buffer);
-    if n != asked {
-        return s;
-    }
-    let lent = &mut buffer[..n];
-    let d = s.desk;
-    let t = replied(
-        s,
-        d.read(
-            image,
-            call.one,
-            call.two,
-            call.three,
-            call.four,
-            call.formatted,
-            lent,
-        ),
-    );
-    let line = t.line;
-    printed(rt, said(t, Text::empty()), line.print_with(rt, lent))
-}
-
-// `read` and `read-text`.
-fn read(rt: &HostRuntime, image: &[u8], s: Session, call: Call) -> Session {
-    let mut buffer = blank();
-    read_into(rt, image, s, call, &mut buffer)
-}
-
-fn sector(image: &[u8], t: Text, number: u32) -> Text {
+fn print_sector(rt: &HostRuntime, image: &[u8], number: u32) -> io::Result<()> {
     let from = 256 * number as usize;
-    let to = from + 256;
-    if image.len() < to {
-        return t;
-    }
-    Text::empty().hex(&image[from..to])
-}
-
-fn sum(image: &[u8]) -> Text {
-    let size = image.len() as u64;
-    Text::empty()
-        .number(size)
-        .number(image::adler(image) as u64)
-}
-
-// What a command prints that only prints; one that cannot leaves the line that it got.
-fn shown(image: &[u8], t: Text, d: Desk, command: usize, number: u32) -> Text {
-    match command {
-        script::SECTOR => sector(image, t, number),
-        script::DESK => listing::desk(d),
-        script::DESK_BYTES => Text::empty().hex(&listing::packed(d)),
-        script::SUM => sum(image),
-        script::MAP => listing::map(image),
-        _ => t,
+    match image.get(from..from + 256) {
+        Some(sector) => print::line(rt, Hex(sector)),
+        None => print::line(rt, UNREADABLE),
     }
 }
 
-// A command that only looks at the image.
-fn look(rt: &HostRuntime, image: &[u8], s: Session, call: Call, data: &[u8]) -> Session {
-    let d = s.desk;
-    let t = s.line;
-    let command = call.command;
-    if command <= script::REWIND {
-        return replied(s, calls::ask(d, image, call, data));
+impl<'a> Session<'a> {
+    /// A script at its start. `new_file` is the file that the image is to be written to first, if it is to be written back.
+    pub(crate) fn new(new_file: Option<&'a str>) -> Session<'a> {
+        Session {
+            desk: Desk::empty(),
+            changed: false,
+            untried: new_file,
+        }
     }
-    if command <= script::READ_TEXT {
-        return read(rt, image, s, call);
-    }
-    said(s, shown(image, t, d, command, call.one))
-}
 
-// A command on the image.
-fn work(rt: &HostRuntime, image: &mut [u8], s: Session, call: Call) -> Session {
-    let bytes = call.data;
-    let n = print::within(call.count, &bytes);
-    let data = &bytes[..n];
-    let command = call.command;
-    match command {
-        script::NEW => fresh(image, s, call.one),
-        script::POKE => poke(image, s, call.one, data),
-        script::FORMAT..=script::UPDATE_TEXT => serve(image, s, call, data),
-        script::IOCB => request(image, s, call),
-        script::IOCB_WITH => request_with(image, s, call),
-        _ => look(rt, image, s, call, data),
+    /// Whether the image was changed.
+    pub(crate) fn has_changed(&self) -> bool {
+        self.changed
     }
-}
 
-// `new` makes the image as long as it says, if there is room.
-fn sized(s: Session, call: Call) -> Session {
-    let n = call.one as usize;
-    if (call.command != script::NEW) | (524544 < n) {
-        return s;
+    // Takes a call's desk over, and prints its answer.
+    fn reply(&mut self, rt: &HostRuntime, r: Reply) -> io::Result<()> {
+        self.desk = r.desk;
+        print::line(rt, Told(r.answer))
     }
-    let mut t = s;
-    t.size = n;
-    t
-}
 
-fn done(rt: &HostRuntime, whole: &mut [u8], s: Session, call: Call) -> Session {
-    let n = print::within(s.size, whole);
-    work(rt, &mut whole[..n], s, call)
-}
+    // The image is zeros, as many as was asked, and the desk is empty.
+    fn renew(&mut self, rt: &HostRuntime, image: &mut Image, size: u32) -> io::Result<()> {
+        if image::clear(image, size).is_none() {
+            return print::line(rt, UNREADABLE);
+        }
+        self.desk = Desk::empty();
+        self.changed = true;
+        print::line(rt, format_args!("new {size}"))
+    }
 
-// Before the first command that may change the image it is seen to that it can be written back; otherwise the run ends there,
-// with nothing changed. A command that does nothing leaves the line that it begins with.
-fn readied(rt: &HostRuntime, name: &str, s: Session, command: usize) -> Session {
-    let mut t = said(s, Text::empty().word(b"?"));
-    if s.ready | (script::CHECK <= command) {
-        return t;
+    fn poke(&mut self, rt: &HostRuntime, image: &mut [u8], at: u32, s: &[u8]) -> io::Result<()> {
+        if image::poke(image, at, s).is_none() {
+            return print::line(rt, UNREADABLE);
+        }
+        self.changed = true;
+        print::line(rt, "poke")
     }
-    t.ready = store::can_save(rt, name);
-    t.broken = !t.ready;
-    t
-}
 
-// Prints the line, or of a read what is left of it.
-fn told(rt: &HostRuntime, s: Session) -> Session {
-    if s.broken {
-        return s;
+    fn change(&mut self, rt: &HostRuntime, image: &mut [u8], call: &Change) -> io::Result<()> {
+        let r = calls::change(self.desk, image, call);
+        self.changed |= r.answer.is_ok();
+        self.reply(rt, r)
     }
-    let line = s.line;
-    printed(rt, s, line.print(rt))
-}
 
-/// Carries a line of the script out. `name` is the file that the image would be written to first.
-pub(crate) fn step(
-    rt: &HostRuntime,
-    name: &str,
-    whole: &mut Room,
-    s: Session,
-    call: Call,
-) -> Session {
-    if call.command == script::NOTHING {
-        return s;
+    fn ask(&mut self, rt: &HostRuntime, image: &[u8], call: &Question) -> io::Result<()> {
+        self.reply(rt, calls::ask(self.desk, image, call))
     }
-    let t = readied(rt, name, s, call.command);
-    if t.broken {
-        return t;
+
+    // A request that was carried out counts as a change of the image, whatever it asked for.
+    fn count(&mut self, o: &Outcome) {
+        self.changed = self.changed || o.is_done();
     }
-    told(rt, done(rt, whole, sized(t, call), call))
+
+    // The desk is lent in its packed form, and what that is after the request is the script's desk.
+    fn request(
+        &mut self,
+        rt: &HostRuntime,
+        image: &mut [u8],
+        caller: u32,
+        areas: Areas,
+    ) -> io::Result<()> {
+        let mut bytes = listing::packed(self.desk);
+        let o = requests::run(image, &mut bytes, caller, areas);
+        self.desk = front::desks::open(&bytes);
+        self.count(&o);
+        print::line(rt, format_args!("{:02X} {o}", o.number()))
+    }
+
+    // The line brings the desk bytes, and the script's desk is left.
+    fn request_with(
+        &mut self,
+        rt: &HostRuntime,
+        image: &mut [u8],
+        desk: &mut [u8],
+        caller: u32,
+        areas: Areas,
+    ) -> io::Result<()> {
+        let o = requests::run(image, desk, caller, areas);
+        self.count(&o);
+        print::line(
+            rt,
+            format_args!("{:02X} {} {o}", o.number(), print::Area(desk)),
+        )
+    }
+
+    // Reads into the front of a buffer, as many bytes as the line asks for, and prints the answer and that front, refused or not.
+    fn read(
+        &mut self,
+        rt: &HostRuntime,
+        image: &[u8],
+        target: Target,
+        length: u32,
+    ) -> io::Result<()> {
+        let n = length as usize;
+        if LONGEST < n {
+            return print::line(rt, UNREADABLE);
+        }
+        // Stays: the front of a fixed room. A `Vec` of that length could end the run for want of memory.
+        let mut buffer = blank();
+        let r = calls::read(self.desk, image, target, &mut buffer[..n]);
+        self.desk = r.desk;
+        print::begin(rt, format_args!("{} ", Told(r.answer)))?;
+        print::end(rt, &buffer[..n])
+    }
+
+    // Carries a command out, and prints its line.
+    fn carry_out(
+        &mut self,
+        rt: &HostRuntime,
+        image: &mut Image,
+        command: Command,
+    ) -> io::Result<()> {
+        match command {
+            Command::New { size } => self.renew(rt, image, size),
+            Command::Poke { at, bytes } => self.poke(rt, image, at, &bytes),
+            Command::Change(call) => self.change(rt, image, &call),
+            Command::Iocb { caller, areas } => self.request(rt, image, caller, areas),
+            Command::IocbWith {
+                mut desk,
+                caller,
+                areas,
+            } => self.request_with(rt, image, &mut desk, caller, areas),
+            Command::Ask(call) => self.ask(rt, image, &call),
+            Command::Read { target, length } => self.read(rt, image, target, length),
+            Command::Sector { number } => print_sector(rt, image, number),
+            Command::Desk => print::line(rt, listing::Units(self.desk)),
+            Command::DeskBytes => print::line(rt, Hex(&listing::packed(self.desk))),
+            Command::Sum => print::line(
+                rt,
+                format_args!("{} {}", image.len(), image::adler(image)),
+            ),
+            Command::Map => listing::print_map(rt, image),
+        }
+    }
+
+    // Before the first command that may change the image it is seen to that it can be written back; otherwise the run ends there, with
+    // nothing changed.
+    fn make_ready(&mut self, rt: &HostRuntime) -> Result<(), Stopped> {
+        if let Some(name) = self.untried {
+            store::try_new(rt, name)?;
+            self.untried = None;
+        }
+        Ok(())
+    }
+
+    /// Carries a line of the script out.
+    pub(crate) fn step(
+        &mut self,
+        rt: &HostRuntime,
+        image: &mut Image,
+        line: Result<Command, ParseError>,
+    ) -> Result<(), Stopped> {
+        let printed = match line {
+            Ok(command) => {
+                if command.may_change() {
+                    self.make_ready(rt)?;
+                }
+                self.carry_out(rt, image, command)
+            }
+            Err(_) => print::line(rt, UNREADABLE),
+        };
+        match printed {
+            Ok(()) => Ok(()),
+            Err(e) => Err(print::fail(rt, "standard output", e)),
+        }
+    }
 }

@@ -1,69 +1,44 @@
 // The image file: read at the start, and written back by way of a new file that is renamed over it.
 ghost use Rattle.std.specs.Prelude.{◌≡◌, ◌≤◌, [], ◌∷◌, ◌++◌, length};
 
-use crate::print::{fail, say};
+use crate::image::Image;
+use crate::print::{Stopped, fail, say};
 use arrayvec::ArrayString;
 use std::fs::{File, OpenOptions};
 use std::io::{ErrorKind, Read, Write};
 use std::{fs, io};
 
-/// The most bytes of an image.
-pub(crate) const IMAGE_LIMIT: usize = 524544;
+// How many bytes of the image are read at once.
+const BLOCK: usize = 65536;
 
-/// Room for the longest image.
-pub(crate) type Room = [u8; IMAGE_LIMIT];
-
-/// How many bytes of the image a file gave, if `ok`.
-#[derive(Clone, Copy)]
-pub(crate) struct Loaded {
-    pub(crate) ok: bool,
-    pub(crate) size: usize,
-}
-
-// Nothing was loaded, and why has been said.
-fn refused() -> Loaded {
-    Loaded { ok: false, size: 0 }
-}
-
-// Reads the file into the image, to its end or until the image is full. The bytes read.
-fn fill(file: &mut File, image: &mut Room) -> io::Result<usize> {
-    let mut size = 0;
-    while size < IMAGE_LIMIT {
-        let n = file.read(&mut image[size..])?;
+// Reads the file into the image, which is empty, to its end. `None`: it is longer than an image may be.
+fn read_whole(rt: &HostRuntime, path: &str, image: &mut Image) -> io::Result<Option<()>> {
+    let mut file = File::open(rt, path)?;
+    let mut block = [0; BLOCK];
+    // A proved loop has to end, and nothing says that a file does: so its turns are counted.
+    for _ in 0..u64::MAX {
+        let n = file.read(&mut block)?;
         if n == 0 {
             break;
         }
-        size += n;
+        if image.try_extend_from_slice(&block[..n]).is_err() {
+            return Ok(None);
+        }
     }
-    Ok(size)
+    Ok(Some(()))
 }
 
-// Reads the file into the image, and then once more: so a file that is too long is told from one that just fits. `None`: it is too long.
-fn read_whole(rt: &HostRuntime, path: &str, image: &mut Room) -> io::Result<Option<usize>> {
-    let mut file = File::open(rt, path)?;
-    let size = fill(&mut file, image)?;
-    let mut one = [0; 1];
-    let more = file.read(&mut one)?;
-    Ok(if more == 0 { Some(size) } else { None })
-}
-
-/// Reads the file into the image. A file that is not there is an empty image; any other that cannot be read, or does not fit, is
-/// said.
-pub(crate) fn load(rt: &HostRuntime, path: &str, image: &mut Room) -> Loaded {
+/// Reads the file into the image, which is empty. A file that is not there is an empty image; any other that cannot be read, or does
+/// not fit, is said.
+pub(crate) fn load(rt: &HostRuntime, path: &str, image: &mut Image) -> Result<(), Stopped> {
     match read_whole(rt, path, image) {
-        Ok(Some(size)) => Loaded { ok: true, size },
-        Ok(None) => {
-            say(
-                rt,
-                "twyn: the image is longer than 524,544 bytes: nothing is done",
-            );
-            refused()
-        }
-        Err(e) if e.kind() == ErrorKind::NotFound => Loaded { ok: true, size: 0 },
-        Err(e) => {
-            fail(rt, path, e);
-            refused()
-        }
+        Ok(Some(())) => Ok(()),
+        Ok(None) => Err(say(
+            rt,
+            "twyn: the image is longer than 524,544 bytes: nothing is done",
+        )),
+        Err(e) if e.kind() == ErrorKind::NotFound => Ok(()),
+        Err(e) => Err(fail(rt, path, e)),
     }
 }
 
@@ -90,17 +65,14 @@ fn create(rt: &HostRuntime, name: &str) -> io::Result<File> {
         .open(rt, name)
 }
 
-/// Whether the image can be written back: the new file is made and taken away again. Why not is said.
-pub(crate) fn can_save(rt: &HostRuntime, name: &str) -> bool {
+/// Sees that the image can be written back: the new file is made and taken away again. Why it cannot be made is said.
+pub(crate) fn try_new(rt: &HostRuntime, name: &str) -> Result<(), Stopped> {
     match create(rt, name) {
         Ok(file) => {
             drop(file);
-            fs::remove_file(rt, name).is_ok()
+            fs::remove_file(rt, name).map_err(|_| Stopped)
         }
-        Err(e) => {
-            fail(rt, name, e);
-            false
-        }
+        Err(e) => Err(fail(rt, name, e)),
     }
 }
 
@@ -119,14 +91,17 @@ fn replace(
 }
 
 /// Writes the image back. If that fails the file is as it was, and why is said; the new file is taken away.
-pub(crate) fn save(rt: &HostRuntime, name: &str, path: &str, image: &[u8]) {
-    match create(rt, name) {
-        Err(e) => fail(rt, name, e),
-        Ok(file) => {
-            if let Err(e) = replace(rt, file, name, path, image) {
-                fail(rt, name, e);
-                let _ = fs::remove_file(rt, name);
-            }
+pub(crate) fn save(rt: &HostRuntime, name: &str, path: &str, image: &[u8]) -> Result<(), Stopped> {
+    let file = match create(rt, name) {
+        Ok(file) => file,
+        Err(e) => return Err(fail(rt, name, e)),
+    };
+    match replace(rt, file, name, path, image) {
+        Ok(()) => Ok(()),
+        Err(e) => {
+            let stopped = fail(rt, name, e);
+            let _ = fs::remove_file(rt, name);
+            Err(stopped)
         }
     }
 }

@@ -15,7 +15,7 @@ use Rattle.lists.specs.Parts.{byte, word, bytes2, part}
 use Rattle.lists.proofs.Tests.{and_left, and_right, both_true}
 use Rattle.volume.specs.Names.{descriptor, user_of}
 use Rattle.volume.specs.Directory.{unused, kind, contiguous, owner, described, read_code, record_length, start, size, record_count, Fields, entry}
-use Rattle.volume.specs.Directory.{code_allowed, valid, named}
+use Rattle.volume.specs.Directory.{code_allowed, valid}
 
 pub descriptor-length : (d : List ℕ) → descriptor d ≡ true → length d ≡ 20
 unfolding descriptor
@@ -97,9 +97,6 @@ module _ (f : Fields) where
     -- a file of no sectors has no records
     pub entry_count : f.size ≡ 0 → record_count (entry f) ≡ 0
     entry_count z = let s = entry-size in let t = entry_30 in omega (arith, z)
-
-  pub entry-named : (h : length f.described ≡ 20) (x : List ℕ) → named (described (entry f)) x ≡ named f.described x
-  entry-named h x = rw (entry-described h)
 
   pub entry-valid : descriptor f.described ≡ true → f.kind ≤ 1 → code_allowed (user_of f.described) f.read_code ≡ true
       → (if eqb f.kind 0 then leb 1 f.size and eqb f.record_length 0 else eqb f.size 0 and leb f.record_length record_limit) ≡ true → valid (entry f) ≡ true

@@ -3,6 +3,7 @@ pub mod Bits
 pub mod BitsSet
 pub mod EntriesMade
 pub mod EntryBytes
+pub mod EntryChunks
 pub mod EntryCounted
 pub mod EntryFields
 pub mod EntryWritten
@@ -10,6 +11,7 @@ pub mod Formatted
 pub mod LayoutKept
 pub mod Located
 pub mod NameBytes
+pub mod NamesSought
 pub mod RunFound
 pub mod SatAccounts
 pub mod SatChanged
@@ -17,3 +19,4 @@ pub mod SatRuns
 pub mod SearchAnswers
 pub mod Searches
 pub mod Slots
+pub mod Tests

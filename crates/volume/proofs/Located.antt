@@ -16,7 +16,7 @@ use Rattle.volume.specs.Names.{volume_id}
 use Rattle.volume.specs.Volume.{trailer, sat_back, dir_back, dir_at, dirs, in_range, sound1, sat_at, layout_of}
 use Rattle.volume.specs.Code.Located.{Located, where_of, sized_test, trailer_test, dirs_test}
 use Rattle.volume.specs.declared.locate.Layout.{Layout}
-use Rattle.volume.specs.declared.locate.Where.TheVariants.{At, Nowhere}
+use Rattle.std.specs.Prelude.{Some, None}
 
 -- the tests of point 1, each as a fact
 pub record Sound1 (img : List ℕ) : Type 0 where
@@ -137,20 +137,20 @@ Located-sound img h =
     sat-below img l = unfold sat_at in (omega arith)
 
 -- what `locate` answers is right of what it was asked of
-pub located : (img : List ℕ) (p : Layout) → where_of img ≡ At p → Located img p
+pub located : (img : List ℕ) (p : Layout) → where_of img ≡ Some p → Located img p
 unfolding where_of
 located img p e = go (sound1 img) refl e
   where
-    go : (b : Bool) → sound1 img ≡ b → (if b then At (layout_of img) else Nowhere) ≡ At p → Located img p
+    go : (b : Bool) → sound1 img ≡ b → (if b then Some (layout_of img) else None) ≡ Some p → Located img p
     go true h e = let q : layout_of img ≡ p = cc in rw q at (Located-sound img h)
     go false h e = absurd (let z : ◌≡◌ {A = ℕ} 0 1 = cc in omega arith)
 
 -- and that it found nothing says that point 1 fails
-pub nowhere : (img : List ℕ) → where_of img ≡ Nowhere → sound1 img ≡ false
+pub nowhere : (img : List ℕ) → where_of img ≡ None → sound1 img ≡ false
 unfolding where_of
 nowhere img e = go (sound1 img) refl e
   where
-    go : (b : Bool) → sound1 img ≡ b → (if b then At (layout_of img) else Nowhere) ≡ Nowhere → sound1 img ≡ false
+    go : (b : Bool) → sound1 img ≡ b → (if b then Some (layout_of img) else None) ≡ None → sound1 img ≡ false
     go true h e = absurd (let z : ◌≡◌ {A = ℕ} 0 1 = cc in omega arith)
     go false h e = h
 

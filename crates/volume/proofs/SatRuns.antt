@@ -23,8 +23,16 @@ use Rattle.lists.proofs.Puts.{length-put}
 use Rattle.lists.proofs.RangeParts.{among-range}
 use Rattle.lists.proofs.Ranges.{range-cons, range_end, range_below}
 use Rattle.volume.specs.Sat.{marked, with_bit, with_bits}
+use Rattle.volume.specs.Code.Marks.{bit_of}
+use Rattle.volume.specs.declared.sat.Mark.{Mark}
+use Rattle.volume.specs.declared.sat.Mark.TheVariants.{Free, Used}
 use Rattle.volume.proofs.Bits.{all-range, marks_are}
 use Rattle.volume.proofs.BitsSet.{sat_numbers, marked-with_bits, Bytes-with_bits, length-with_bits, with_bits-append}
+
+-- a bit is 0 or 1
+pub bit_of-lt : (m : Mark) → bit_of m < 2
+bit_of-lt Free = omega arith
+bit_of-lt Used = omega arith
 
 -- a turn of a loop that marks or frees a run
 pub with_bits_more : (v : ℕ) (b : List ℕ) (i e : ℕ) → i < e → with_bits v b (range i (e - i)) ≡ with_bits v (with_bit v b i) (range (i + 1) (e - (i + 1)))

@@ -1,17 +1,17 @@
 -- A search over a list, one element at a time, and what it answers.
 use mathlib.Core.Path.{◌≡◌, sym}
-use mathlib.Core.Bool.{Bool, true, false}
+use mathlib.Core.Bool.{Bool, false}
 use mathlib.Core.List.{List}
-use Prim.Native.Nat.{ℕ, suc, ◌+◌, ◌≤◌, ◌<◌}
+use Rattle.std.specs.List.{position}
+use Prim.Native.Nat.{ℕ, suc, ◌+◌, ◌<◌}
 use native.Mathlib.Numerals.{add-one}
 use native.Mathlib.Nat.{zero-add}
 use native.Mathlib.Omega.{arith}
 use lib.ListN.{length, get_or, drop}
 use lib.Seq.{drop-cons}
-use borrow.Author.Tests.{lt-ltb, le-ltb}
 use Rattle.lists.specs.Lists.{index}
+use Rattle.lists.proofs.Iterators.{index_is}
 use Rattle.volume.specs.Code.Found.{found_of}
-use Rattle.volume.specs.declared.directory.Found.TheVariants.{At, Nothing}
 
 -- The search from i on finds what the whole search finds: what a loop that goes up keeps
 module _ {A : Type 0} (p : A → Bool) (xs : List A) where
@@ -27,14 +27,8 @@ module _ {A : Type 0} (p : A → Bool) (xs : List A) where
       let s : index p (drop i xs) ≡ suc (index p (drop (i + 1) xs)) = rw (add-one, drop-cons xs i d h, index, e) in
       omega arith
 
-  module _ (n : ℕ) (long : length xs ≡ n) where
-    pub from_stop : (d : A) (i : ℕ) → i < n → p (get_or xs i d) ≡ true → From i → found_of n (index p xs) ≡ At i
-    unfolding index found_of
-    from_stop d i h e f =
-        let s : index p (drop i xs) ≡ 0 = rw (drop-cons xs i d (omega arith), index, e) in
-        let z : index p xs ≡ i = omega arith in
-        rw (z, lt-ltb i n h)
-
-    pub from_end : (i : ℕ) → n ≤ i → From i → found_of n (index p xs) ≡ Nothing
-    unfolding index found_of
-    from_end i h f = rw (le-ltb (index p xs) n (omega arith))
+-- the same in std's words: the place that `position` gives
+module _ {A : Type 0} (p : A → Bool) where
+  pub position_found : (xs : List A) (n : ℕ) → length xs ≡ n → position p xs ≡ found_of n (index p xs)
+  unfolding found_of
+  position_found xs n long = rw (index_is p xs, long)

@@ -2,6 +2,7 @@ pub mod BitRows
 pub mod Counted
 pub mod Digits
 pub mod NumberBits
+pub mod QuadBytes
 pub mod RunHunt
 pub mod RunQuads
 pub mod SearchStops

@@ -1,2 +1,3 @@
 pub mod EmptySectors
 pub mod UsedSlots
+pub mod Walked

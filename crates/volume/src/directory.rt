@@ -1,29 +1,22 @@
 // The directory: where an entry and its fields stand; entries judged, searched, written.
-ghost use Rattle.lists.specs.Lists.{◌or◌, all, index};
-ghost use Rattle.std.specs.Prelude.{◌≡◌, ◌+◌, ◌*◌, ◌<◌, ◌≤◌, length, [], ◌∷◌, ◌++◌, false};
+ghost use Rattle.lists.specs.Lists.{index};
+ghost use Rattle.std.specs.Prelude.{position, ◌≡◌, ◌+◌, ◌*◌, ◌<◌, ◌≤◌, length, [], ◌∷◌, ◌++◌};
 ghost use Rattle.volume.specs.Directory.{entry_at, unused, kind, contiguous, owner, read_code, code_allowed, record_length, start, size};
 ghost use Rattle.volume.specs.Directory.{record_count, counted_as};
-ghost use Rattle.volume.specs.Directory.{fields, entry, extent_good, valid, entries, sound2, named};
+ghost use Rattle.volume.specs.Directory.{fields, entry, extent_good, valid, entries, named};
 ghost use Rattle.volume.specs.Code.Located.{Located, entry_byte, EntryIn};
 ghost use Rattle.numbers.specs.Numbers.{most_sectors, most_dirs};
 ghost use Rattle.lists.specs.Parts.{part, put, bytes2, blanks};
 ghost use Rattle.volume.specs.Code.Found.{found_of};
-ghost use Rattle.volume.specs.Code.Used.{used_slots};
 
-use crate::clashes::names_differ;
 use crate::locate::Layout;
+use crate::mount::Volume;
 use crate::names::descriptor;
-use lists::parts::{
-    all_zero, clear, copy_in, long_at, put_long, put_word, same_bytes, sector_of, wide, word_at,
-};
+use lists::parts::{all_zero, clear, copy_in, long_at, put_long, put_word, word_at};
 use numbers::RECORD_LIMIT;
 
-/// A slot of the directory, or none.
-#[derive(Clone, Copy)]
-pub enum Found {
-    At(usize),
-    Nothing,
-}
+/// A directory entry, 32 bytes.
+pub type Entry = [u8; 32];
 
 // Where the entry in slot k starts.
 fn entry_at(p: Layout, k: usize) -> usize
@@ -34,13 +27,11 @@ fn entry_at(p: Layout, k: usize) -> usize
 }
 
 /// The entry in slot k.
-pub fn entry_of(img: &[u8], p: Layout, k: usize) -> &[u8]
+pub fn entry_of(img: &[u8], p: Layout, k: usize) -> &Entry
     requires { Located img.now p × (k < 8 * p.dirs) }
     ensures { result.now ≡ entry_at img.now k }
 {
-    let a = entry_at(p, k);
-    let e = a + 32;
-    &img[a..e]
+    Volume { img, p }.entry(k)
 }
 
 pub fn unused(e: &[u8]) -> bool
@@ -49,165 +40,171 @@ pub fn unused(e: &[u8]) -> bool
     all_zero(e)
 }
 
+// Stays: the fields as `usize` with a bound beside it: they count and place sectors, in sums that a u16 does not hold.
 /// The type: 0 contiguous, 1 sequential.
-pub fn kind(e: &[u8]) -> usize
-    requires { length e.now ≡ 32 }
+pub fn kind(e: &Entry) -> usize
     ensures { (result ≡ kind e.now) × (result < 256) }
 {
-    wide(e[1])
+    usize::from(e[1])
 }
 
-pub fn contiguous(e: &[u8]) -> bool
-    requires { length e.now ≡ 32 }
+#[tactic(auto, unfolding(crate::specs::Directory::contiguous))]
+pub fn contiguous(e: &Entry) -> bool
     ensures { result ≡ contiguous e.now }
 {
     kind(e) == 0
 }
 
 /// The user whose file it is.
-pub fn owner(e: &[u8]) -> usize
-    requires { length e.now ≡ 32 }
+pub fn owner(e: &Entry) -> usize
     ensures { (result ≡ owner e.now) × (result < 65536) }
 {
     word_at(e, 2)
 }
 
 /// The read-protect code.
-pub fn read_code(e: &[u8]) -> u8
-    requires { length e.now ≡ 32 }
+pub fn read_code(e: &Entry) -> u8
     ensures { result ≡ read_code e.now }
 {
     e[23]
 }
 
-pub fn record_length(e: &[u8]) -> usize
-    requires { length e.now ≡ 32 }
+pub fn record_length(e: &Entry) -> usize
     ensures { (result ≡ record_length e.now) × (result < 65536) }
 {
     word_at(e, 24)
 }
 
 /// The first sector, or the access block's.
-pub fn start(e: &[u8]) -> usize
-    requires { length e.now ≡ 32 }
+pub fn start(e: &Entry) -> usize
     ensures { (result ≡ start e.now) × (result < 65536) }
 {
     word_at(e, 26)
 }
 
 /// The sectors of a contiguous file.
-pub fn size(e: &[u8]) -> usize
-    requires { length e.now ≡ 32 }
+pub fn size(e: &Entry) -> usize
     ensures { (result ≡ size e.now) × (result < 65536) }
 {
     word_at(e, 28)
 }
 
 /// The record count of a sequential file.
-pub fn record_count(e: &[u8]) -> usize
-    requires { length e.now ≡ 32 }
+pub fn record_count(e: &Entry) -> usize
     ensures { (result ≡ record_count e.now) × (result < 4294967296) }
 {
     long_at(e, 28)
 }
 
 // A contiguous file has sectors, zeros after their number and no record length; a sequential one may have a record length.
-fn extent_good(e: &[u8]) -> bool
-    requires { length e.now ≡ 32 }
+#[tactic(auto, using(lists::proofs::Steps::bool_steps, std::proofs::lemmas::Bool::Decides::nat_tests))]
+fn extent_good(e: &Entry) -> bool
     ensures { result ≡ extent_good e.now }
 {
     let long = record_length(e);
     if contiguous(e) {
-        return (1 <= size(e)) & (word_at(e, 30) == 0) & (long == 0);
+        1 <= size(e) && word_at(e, 30) == 0 && long == 0
+    } else {
+        long <= RECORD_LIMIT
     }
-    long <= RECORD_LIMIT
 }
 
 /// Whether a file of this user may have this read-protect code: user 0's have none.
+#[tactic(auto, using(lists::proofs::Steps::bool_steps, std::proofs::lemmas::Bool::Decides::nat_tests), unfolding(crate::specs::Directory::code_allowed))]
 pub fn code_allowed(user: usize, read_code: u8) -> bool
     ensures { result ≡ code_allowed user read_code }
 {
-    (user != 0) | (read_code == 0)
+    user != 0 || read_code == 0
 }
 
 /// A used entry's fields are in range.
-pub fn valid(e: &[u8]) -> bool
-    requires { length e.now ≡ 32 }
+#[tactic(auto, using(lists::proofs::Steps::bool_steps, std::proofs::lemmas::Bool::Decides::nat_tests), unfolding(crate::specs::Directory::valid, crate::specs::Directory::described, lists::specs::Parts::part))]
+pub fn valid(e: &Entry) -> bool
     ensures { result ≡ valid e.now }
 {
-    (e[0] == 1)
-        & (kind(e) <= 1)
-        & descriptor(&e[2..22])
-        & (e[22] == 0)
-        & code_allowed(owner(e), read_code(e))
-        & extent_good(e)
+    e[0] == 1
+        && kind(e) <= 1
+        && descriptor(&e[2..22])
+        && e[22] == 0
+        && code_allowed(owner(e), read_code(e))
+        && extent_good(e)
 }
 
-/// Is every entry unused or valid? Those in use are looked at.
-pub fn entries_valid(img: &[u8], p: Layout, used: &[u8]) -> bool
-    requires { Located img.now p × (used.now ≡ used_slots img.now) }
-    ensures { result ≡ all (λ e. unused e or valid e) (entries img.now) }
+// Is it the entry of that name?
+#[tactic(auto, using(lists::proofs::Equal::equal_rules), unfolding(crate::specs::Directory::named, crate::specs::Directory::described, lists::specs::Parts::part))]
+pub(crate) fn is_named(e: &Entry, desc: &[u8]) -> bool
+    ensures { result ≡ named desc.now e.now }
 {
-    let mut i = 0;
-    while i < used.len() {
-        if !valid(entry_of(img, p, wide(used[i]))) {
-            return false;
-        }
-        i += 1;
-    }
-    true
+    desc == &e[2..22]
 }
 
-/// Point 2 of soundness, where `used` lists the slots in use.
-pub fn directory_sound(img: &[u8], p: Layout, used: &[u8]) -> bool
-    requires { Located img.now p × (used.now ≡ used_slots img.now) }
-    ensures { result ≡ sound2 img.now }
+// The lowest slot of that name: sector by sector and entry by entry, up to the first match.
+#[tactic(auto, using(crate::proofs::NamesSought::passed, crate::proofs::NamesSought::here, crate::proofs::NamesSought::at_end))]
+fn first_named(entries: &[Entry], sectors: usize, desc: &[u8]) -> Option<usize>
+    requires { length entries.now ≡ 8 * sectors }
+    ensures { result ≡ position (named desc.now) entries.now }
 {
-    if entries_valid(img, p, used) {
-        return names_differ(img, p, used);
-    }
-    false
-}
-
-/// The lowest slot of that name: sector by sector and entry by entry, up to the first match.
-pub fn find(img: &[u8], p: Layout, desc: &[u8]) -> Found
-    requires { Located img.now p }
-    ensures { result ≡ found_of (8 * p.dirs) (index (named desc.now) (entries img.now)) }
-{
-    let dir = p.dir;
-    let dirs = p.dirs;
-    let mut found = Found::Nothing;
-    let mut j = 0;
-    'sectors: while j < dirs {
-        let part = sector_of(img, dir + j);
-        let mut k = 0;
-        while k < 8 {
-            let a = 32 * k + 2;
-            let e = a + 20;
-            if same_bytes(desc, &part[a..e]) {
-                found = Found::At(8 * j + k);
+    let mut found = None;
+    'sectors: for j in 0..sectors {
+        for k in 0..8 {
+            let slot = 8 * j + k;
+            if is_named(&entries[slot], desc) {
+                found = Some(slot);
                 break 'sectors;
             }
-            k += 1;
         }
-        j += 1;
     }
     found
 }
 
-pub fn lowest_unused(img: &[u8], p: Layout) -> Found
+impl<'a> Volume<'a> {
+    /// The entries of the directory, slot by slot.
+    pub fn entries(&self) -> &'a [Entry]
+        ensures { result.now ≡ entries self.now.img.now }
+    {
+        let p = self.p;
+        self.img[256 * p.dir..256 * (p.dir + p.dirs)]
+            .as_chunks::<32>()
+            .0
+    }
+
+    /// The entry in slot k.
+    pub fn entry(&self, k: usize) -> &'a Entry
+        requires { k < 8 * self.now.p.dirs }
+        ensures { result.now ≡ entry_at self.now.img.now k }
+    {
+        &self.entries()[k]
+    }
+
+    /// The lowest slot of that name.
+    pub fn find(&self, desc: &[u8]) -> Option<usize>
+        ensures { result ≡ found_of (8 * self.now.p.dirs) (index (named desc.now) (entries self.now.img.now)) }
+    {
+        first_named(self.entries(), self.p.dirs, desc)
+    }
+
+    /// The lowest unused slot.
+    pub fn lowest_unused(&self) -> Option<usize>
+        ensures { result ≡ found_of (8 * self.now.p.dirs) (index unused (entries self.now.img.now)) }
+    {
+        self.entries().iter().position(|e| unused(e))
+    }
+}
+
+/// The lowest slot of that name.
+pub fn find(img: &[u8], p: Layout, desc: &[u8]) -> Option<usize>
+    requires { Located img.now p }
+    ensures { result ≡ found_of (8 * p.dirs) (index (named desc.now) (entries img.now)) }
+{
+    Volume { img, p }.find(desc)
+}
+
+/// The lowest unused slot.
+pub fn lowest_unused(img: &[u8], p: Layout) -> Option<usize>
     requires { Located img.now p }
     ensures { result ≡ found_of (8 * p.dirs) (index unused (entries img.now)) }
 {
-    let n = 8 * p.dirs;
-    let mut k = 0;
-    while k < n {
-        if unused(entry_of(img, p, k)) {
-            return Found::At(k);
-        }
-        k += 1;
-    }
-    Found::Nothing
+    Volume { img, p }.lowest_unused()
 }
 
 // What stands after the descriptor.
@@ -216,13 +213,14 @@ fn put_numbers(part: &mut [u8], read_code: u8, len: usize, s: usize, n: usize)
     ensures { part.new
         ≡ put 22 (0 ∷ read_code ∷ (bytes2 len ++ (bytes2 s ++ (bytes2 n ++ (0 ∷ 0 ∷ []))))) part.old }
 {
-    put_word(part, 22, wide(read_code));
+    put_word(part, 22, usize::from(read_code));
     put_word(part, 24, len);
     put_word(part, 26, s);
     put_word(part, 28, n);
     put_word(part, 30, 0);
 }
 
+// Stays: a part as a slice, since `as_chunks_mut` says nothing of what the image is after a write.
 fn put_fields(
     part: &mut [u8],
     desc: &[u8],
@@ -242,6 +240,7 @@ fn put_fields(
 
 /// Writes an entry of these fields in slot k: the kind, the read-protect code, the record length, the first sector and the number of
 /// sectors.
+#[tactic(auto, unfolding(lists::specs::Parts::part, lists::specs::Parts::put))]
 pub fn put_entry(
     img: &mut [u8],
     p: Layout,
@@ -257,20 +256,8 @@ pub fn put_entry(
     ensures { img.new
         ≡ put (entry_byte p k) (entry (fields kind desc.now read_code len s n)) img.old }
 {
-    let a = entry_at(p, k);
-    let e = a + 32;
-    put_fields(&mut img[a..e], desc, kind, read_code, len, s, n);
-}
-
-// The entry e with this record count, if it is a sequential file's.
-fn set_count(e: &mut [u8], n: usize)
-    requires { (length e.old ≡ 32) × (n < 4294967296) }
-    ensures { e.new ≡ counted_as n e.old }
-{
-    if unused(e) | contiguous(e) {
-        return;
-    }
-    put_long(e, 28, n);
+    let at = entry_at(p, k);
+    put_fields(&mut img[at..at + 32], desc, kind, read_code, len, s, n);
 }
 
 /// Gives the entry in slot k this record count, if it is a sequential file's; any other stays.
@@ -279,17 +266,20 @@ pub fn put_count(img: &mut [u8], p: Layout, k: usize, n: usize)
     ensures { img.new
         ≡ put (entry_byte p k) (counted_as n (part (entry_byte p k) 32 img.old)) img.old }
 {
-    let a = entry_at(p, k);
-    let e = a + 32;
-    set_count(&mut img[a..e], n);
+    let e = &img.as_chunks::<32>().0[8 * p.dir + k];
+    if unused(e) || contiguous(e) {
+        return;
+    }
+    let at = entry_at(p, k);
+    put_long(&mut img[at..at + 32], 28, n);
 }
 
 /// Makes the entry in slot k an unused one.
+#[tactic(auto, unfolding(lists::specs::Parts::part, lists::specs::Parts::put, lists::specs::Parts::blanks))]
 pub fn clear_entry(img: &mut [u8], p: Layout, k: usize)
     requires { EntryIn img.old p k }
     ensures { img.new ≡ put (entry_byte p k) (blanks 32) img.old }
 {
-    let a = entry_at(p, k);
-    let e = a + 32;
-    clear(&mut img[a..e]);
+    let at = entry_at(p, k);
+    clear(&mut img[at..at + 32]);
 }

@@ -8,7 +8,7 @@ ghost use Rattle.volume.specs.Formatted.{fresh_layout, formatted};
 ghost use Rattle.volume.specs.Code.Located.{LaidOut};
 
 use crate::locate::{Layout, put_trailer};
-use crate::sat::{mark_run, set_mark};
+use crate::sat::{Mark, set_bit, set_run};
 use lists::parts::{clear, copy_in};
 use numbers::MOST_SECTORS;
 
@@ -25,14 +25,15 @@ fn fresh_layout(t: usize, d: usize) -> Layout
 }
 
 // The table of a volume with system sectors only: 0, the table, the directory, the trailer, and what lies past the end.
+#[tactic(auto, using(crate::proofs::Formatted::system_sat))]
 fn mark_system(sat: &mut [u8], p: Layout)
     requires { (length sat.old ≡ 256) × (sat.old ≡ blanks 256) × LaidOut p }
     ensures { sat.new ≡ sat_of p.t (system_of p) }
 {
-    set_mark(sat, 0);
-    set_mark(sat, p.sat);
-    mark_run(sat, p.dir, p.dirs);
-    mark_run(sat, p.t - 1, MOST_SECTORS + 1 - p.t);
+    set_bit(sat, 0, Mark::Used);
+    set_bit(sat, p.sat, Mark::Used);
+    set_run(sat, p.dir, p.dirs, Mark::Used);
+    set_run(sat, p.t - 1, MOST_SECTORS + 1 - p.t, Mark::Used);
 }
 
 /// A volume of the image's length with this ID, d directory sectors and no file.
@@ -46,7 +47,5 @@ pub fn format(img: &mut [u8], id: &[u8], d: usize)
     clear(img);
     copy_in(img, id);
     mark_system(&mut img[256..512], p);
-    let at = 256 * (t - 1);
-    let end = at + 256;
-    put_trailer(&mut img[at..end], p);
+    put_trailer(&mut img[256 * (t - 1)..256 * (t - 1) + 256], p);
 }

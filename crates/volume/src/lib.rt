@@ -6,6 +6,7 @@ pub mod clashes;
 pub mod directory;
 pub mod format;
 pub mod locate;
+pub mod mount;
 pub mod names;
 pub mod quads;
 pub mod sat;

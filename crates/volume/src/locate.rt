@@ -7,11 +7,11 @@ ghost use Rattle.volume.specs.Code.Located.{sized_test, trailer_test, dirs_test,
 ghost use Rattle.volume.specs.Formatted.{trailer_of};
 
 use crate::names::volume_id;
-use lists::parts::{all_zero, put_word, sector_of, word_at};
+use lists::parts::{Sector, all_zero, put_word, sector_of, word_at};
 use numbers::{FEWEST_SECTORS, MOST_DIRS, MOST_SECTORS};
 
 /// T, the SAT's sector, the first directory sector and D.
-#[derive(Clone, Copy)]
+#[derive(Clone, Copy, Debug, PartialEq, Eq)]
 pub struct Layout {
     pub t: usize,
     pub sat: usize,
@@ -19,63 +19,56 @@ pub struct Layout {
     pub dirs: usize,
 }
 
-/// The layout of a volume whose point 1 holds.
-#[derive(Clone, Copy)]
-pub enum Where {
-    At(Layout),
-    Nowhere,
-}
-
 // T sectors, and no byte more.
+#[tactic(auto, using(lists::proofs::Steps::bool_steps, std::proofs::lemmas::Bool::Decides::nat_tests), unfolding(lists::specs::Parts::sectors))]
 fn sized(img: &[u8]) -> bool
     ensures { result ≡ sized_test img.now }
 {
     let t = img.len() / 256;
-    (img.len() == 256 * t) & (FEWEST_SECTORS <= t) & (t <= MOST_SECTORS)
+    img.len() == 256 * t && FEWEST_SECTORS <= t && t <= MOST_SECTORS
 }
 
+// Stays: the trailer's words as `usize` with a bound beside it, since the places that they tell are sums.
 // The trailer's distance back to the SAT.
-fn sat_back(tr: &[u8]) -> usize
-    requires { length tr.now ≡ 256 }
+fn sat_back(tr: &Sector) -> usize
     ensures { (result ≡ sat_back tr.now) × (result < 65536) }
 {
     word_at(tr, 2)
 }
 
 // The trailer's distance back to the first directory sector.
-fn dir_back(tr: &[u8]) -> usize
-    requires { length tr.now ≡ 256 }
+fn dir_back(tr: &Sector) -> usize
     ensures { (result ≡ dir_back tr.now) × (result < 65536) }
 {
     word_at(tr, 4)
 }
 
 // The trailer's D.
-fn dir_count(tr: &[u8]) -> usize
-    requires { length tr.now ≡ 256 }
+fn dir_count(tr: &Sector) -> usize
     ensures { (result ≡ dir_count tr.now) × (result < 65536) }
 {
     word_at(tr, 6)
 }
 
 // The trailer says T, its distances stay on the volume, and its other bytes are zero.
-fn trailer_good(tr: &[u8], t: usize) -> bool
-    requires { length tr.now ≡ 256 }
+fn trailer_good(tr: &Sector, t: usize) -> bool
     ensures { result ≡ trailer_test t tr.now }
 {
-    (word_at(tr, 0) == t) & all_zero(&tr[8..]) & (sat_back(tr) < t) & (dir_back(tr) < t)
+    word_at(tr, 0) == t && all_zero(&tr[8..]) && sat_back(tr) < t && dir_back(tr) < t
 }
 
 // D is in range, and the directory ends on the volume.
-fn dirs_good(tr: &[u8], t: usize) -> bool
-    requires { (length tr.now ≡ 256) × (t ≤ most_sectors) × (dir_back tr.now < t) }
+#[tactic(auto, using(lists::proofs::Steps::bool_steps, std::proofs::lemmas::Bool::Decides::nat_tests))]
+fn dirs_good(tr: &Sector, t: usize) -> bool
+    requires { (t ≤ most_sectors) × (dir_back tr.now < t) }
     ensures { result ≡ dirs_test t tr.now }
 {
     let d = dir_count(tr);
     let dir = t - 1 - dir_back(tr);
-    (1 <= d) & (d <= MOST_DIRS) & (dir + d <= t)
+    1 <= d && d <= MOST_DIRS && dir + d <= t
 }
 
+// Stays: two returns, since the trailer is read only where the image has a sector, and its D only where its distances stay inside.
 // Point 1 of soundness.
 pub fn sound_1(img: &[u8]) -> bool
     ensures { result ≡ sound1 img.now }
@@ -88,7 +81,7 @@ pub fn sound_1(img: &[u8]) -> bool
     if !trailer_good(tr, t) {
         return false;
     }
-    dirs_good(tr, t) & volume_id(&img[0..4])
+    dirs_good(tr, t) && volume_id(&img[0..4])
 }
 
 fn read_places(img: &[u8]) -> Layout
@@ -103,17 +96,19 @@ fn read_places(img: &[u8]) -> Layout
     Layout { t, sat, dir, dirs }
 }
 
-// Any bytes are taken; where point 1 fails nothing is found.
-pub fn locate(img: &[u8]) -> Where
+/// The layout of any bytes that point 1 of soundness holds of.
+#[tactic(auto, unfolding(crate::specs::Code::Located::where_of))]
+pub fn locate(img: &[u8]) -> Option<Layout>
     ensures { result ≡ where_of img.now }
 {
     if sound_1(img) {
-        return Where::At(read_places(img));
+        return Some(read_places(img));
     }
-    Where::Nowhere
+    None
 }
 
 /// Writes the trailer of a volume that has its parts there.
+#[tactic(auto, using(crate::proofs::Formatted::trailer_filled))]
 pub fn put_trailer(part: &mut [u8], p: Layout)
     requires { (length part.old ≡ 256) × (part.old ≡ blanks 256) × LaidOut p }
     ensures { part.new ≡ trailer_of p }

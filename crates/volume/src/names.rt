@@ -7,47 +7,29 @@ ghost use Rattle.lists.specs.Parts.{part};
 use lists::parts::word_at;
 use numbers::LAST_USER;
 
-fn is_letter(c: u8) -> bool
-    ensures { result ≡ letter c }
-{
-    (65 <= c) & (c <= 90)
-}
-
-fn is_digit(c: u8) -> bool
-    ensures { result ≡ digit c }
-{
-    (48 <= c) & (c <= 57)
-}
-
+// May a name have it after its first letter?
+#[tactic(auto, using(lists::proofs::Steps::bool_steps, std::proofs::lemmas::Bool::Decides::nat_tests), unfolding(crate::specs::Names::letter, crate::specs::Names::digit))]
 fn in_name(c: u8) -> bool
     ensures { result ≡ letter c or digit c }
 {
-    is_letter(c) | is_digit(c)
+    c.is_ascii_uppercase() || c.is_ascii_digit()
 }
 
 pub fn all_spaces(s: &[u8]) -> bool
     ensures { result ≡ spaces s.now }
 {
-    let mut i = 0;
-    while i < s.len() {
-        if s[i] != 32 {
-            return false;
-        }
-        i += 1;
-    }
-    true
+    s.iter().all(|c| *c == b' ')
 }
 
+// Stays: by index, since what comes after the first other byte is judged as a whole.
 // What may follow a name's first letter.
 fn name_end(s: &[u8]) -> bool
     ensures { result ≡ name_end s.now }
 {
-    let mut i = 0;
-    while i < s.len() {
+    for i in 0..s.len() {
         if !in_name(s[i]) {
             return all_spaces(&s[i..]);
         }
-        i += 1;
     }
     true
 }
@@ -55,13 +37,10 @@ fn name_end(s: &[u8]) -> bool
 pub fn name(s: &[u8]) -> bool
     ensures { result ≡ name s.now }
 {
-    if s.len() == 0 {
-        return false;
+    match s {
+        [first, rest @ ..] => first.is_ascii_uppercase() && name_end(rest),
+        [] => false,
     }
-    if is_letter(s[0]) {
-        return name_end(&s[1..]);
-    }
-    false
 }
 
 // The catalog, filename and extension of a descriptor.
@@ -70,7 +49,7 @@ fn names_in(d: &[u8]) -> bool
     ensures { result ≡ (name (part 2 8 d.now) or spaces (part 2 8 d.now)) and name (part 10 8 d.now)
         and name (part 18 2 d.now) }
 {
-    (name(&d[2..10]) | all_spaces(&d[2..10])) & name(&d[10..18]) & name(&d[18..20])
+    (name(&d[2..10]) || all_spaces(&d[2..10])) && name(&d[10..18]) && name(&d[18..20])
 }
 
 /// The user that a descriptor names.
@@ -84,17 +63,12 @@ pub fn user_of(d: &[u8]) -> usize
 pub fn descriptor(d: &[u8]) -> bool
     ensures { result ≡ descriptor d.now }
 {
-    if d.len() != 20 {
-        return false;
-    }
-    (user_of(d) <= LAST_USER as usize) & names_in(d)
+    d.len() == 20 && user_of(d) <= LAST_USER as usize && names_in(d)
 }
 
+#[tactic(auto, using(lists::proofs::Steps::bool_steps, std::proofs::lemmas::Bool::Decides::nat_tests), unfolding(crate::specs::Names::volume_id))]
 pub fn volume_id(id: &[u8]) -> bool
     ensures { result ≡ volume_id id.now }
 {
-    if id.len() != 4 {
-        return false;
-    }
-    name(id)
+    id.len() == 4 && name(id)
 }

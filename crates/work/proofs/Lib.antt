@@ -1,6 +1,8 @@
+pub mod Quiet
 pub mod Rules
 pub mod Spots
 pub mod Copies
+pub mod Handing
 pub mod TextRules
 pub mod Readings
 pub mod Writes

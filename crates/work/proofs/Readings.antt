@@ -1,26 +1,30 @@
 -- Read, in the numbers that the code has: of a contiguous file its first sector and its size, of a sequential one the record's data or
 -- its text.
-use mathlib.Core.Path.{◌≡◌, refl, ap, sym, ◌∙◌}
+use mathlib.Core.Path.{◌≡◌, refl}
 use mathlib.Core.Bool.{Bool, true, false}
 use mathlib.Core.List.{List}
 use Prim.Native.Nat.{ℕ, ◌+◌, ◌-◌, ◌≤◌, ◌<◌, ◌/◌, ◌*◌}
 use native.Mathlib.Omega.{arith}
 use native.Mathlib.Nat.{mul-div_cancel_left}
-use lib.Dec.{leb}
+use lib.Dec.{leb, ltb}
 use lib.ListN.{length}
-use borrow.Author.Tests.{le-leb, lt-leb, leb-true, leb-false}
+use borrow.Author.Tests.{le-leb, lt-leb, leb-true, leb-false, lt-ltb, le-ltb, ltb-true, ltb-false}
 use Rattle.lists.specs.Lists.{◌and◌}
-use Rattle.lists.specs.Parts.{part}
+use Rattle.lists.specs.Parts.{part, over}
 use Rattle.lists.proofs.LentParts.{length-part}
-use Rattle.text.specs.Packing.{unpacked}
 use Rattle.volume.specs.Directory.{size, contiguous, start}
 use Rattle.files.specs.Files.{extent, records, record_at}
 use Rattle.files.specs.Changes.{sectors_at}
-use Rattle.work.specs.Code.Runs.{fewer, ran_read, read_run, read_one}
+use Rattle.work.specs.Code.Runs.{fewer, ran_read, read_run}
 use Rattle.work.specs.Transfers.{readable, units, moving, ended, as_text, handed_as, data_at, read_rules, reading}
 use Rattle.work.specs.Refusals.{ruled}
-use Rattle.work.specs.Code.Deeds.{done_by, moved, read_deed}
-use Rattle.work.proofs.TextRules.{text_sequential, text_handed, plain_handed}
+use Rattle.work.specs.Code.Deeds.{deed, done, done_by, moved, read_deed}
+use Rattle.work.specs.declared.Refusal.TheVariants.{BadLength, PastEnd}
+use Rattle.std.specs.Prelude.{Result, Ok, Err}
+use Rattle.work.specs.declared.Refusal.{Refusal}
+use Rattle.work.specs.declared.Transfer.{Transfer}
+use Rattle.work.specs.Code.Codings.{handed, buffer_after}
+use Rattle.work.proofs.TextRules.{plain_handed, sent_handed}
 
 -- as many as there are
 module _ (n i m : ℕ) where
@@ -42,6 +46,11 @@ module _ (n i m : ℕ) where
 readable-fewer : (e : List ℕ) (i n : ℕ) → readable e i n ≡ fewer (size e) i (n / 256)
 unfolding readable fewer
 readable-fewer e i n = refl
+
+-- the answer of a record of which n bytes were handed over
+abbrev pub answered : Result ℕ Refusal → ℕ → Result Transfer Refusal
+answered (Ok n) i = done n i 1
+answered (Err why) i = Err why
 
 module _ (img e : List ℕ) (i : ℕ) (fmt : Bool) (buf : List ℕ) where
   -- in a contiguous file
@@ -72,13 +81,31 @@ module _ (img e : List ℕ) (i : ℕ) (fmt : Bool) (buf : List ℕ) where
         go true q = run_past q
         go false q = run_inside q (run_data h (leb-false _ _ q))
 
-  -- in a sequential one: the data, or their text
-  record_read : contiguous e ≡ false → read_one img (length (records img e)) i (handed_as fmt e (record_at img e i)) buf ≡ read_deed img e i fmt buf
-  unfolding read_one read_deed read_rules ended extent reading moving moved data_at units done_by ruled ◌and◌
-  record_read c = rw c
+  -- of a sequential one: what is handed over of the record is bs
+  module _ (c : contiguous e ≡ false) where
+    pub record_past : length (records img e) ≤ i → deed (Err PastEnd) img buf ≡ read_deed img e i fmt buf
+    unfolding read_deed read_rules ended extent done_by ruled ◌and◌
+    record_past l = rw (c, le-leb (length (records img e)) i l)
 
-  pub text_read : as_text fmt e ≡ true → read_one img (length (records img e)) i (unpacked (record_at img e i)) buf ≡ read_deed img e i fmt buf
-  text_read t = rw (sym (text_handed fmt e t (record_at img e i))) (record_read (text_sequential fmt e t))
+    module _ (bs : List ℕ) (h : handed_as fmt e (record_at img e i) ≡ bs) (l : i < length (records img e)) where
+      record_short : length buf < length bs → deed (Err BadLength) img buf ≡ read_deed img e i fmt buf
+      unfolding read_deed read_rules ended extent done_by ruled ◌and◌
+      record_short s = rw (c, h, lt-leb (length (records img e)) i l, lt-ltb (length buf) (length bs) s)
 
-  pub plain_read : as_text fmt e ≡ false → contiguous e ≡ false → read_one img (length (records img e)) i (record_at img e i) buf ≡ read_deed img e i fmt buf
-  plain_read t c = ap (λ (bs : List ℕ). read_one img (length (records img e)) i bs buf) (sym (plain_handed fmt e t (record_at img e i))) ∙ record_read c
+      record_read : length bs ≤ length buf → deed (done (length bs) i 1) img (over bs buf) ≡ read_deed img e i fmt buf
+      unfolding read_deed read_rules ended extent reading moving moved data_at units done_by ruled ◌and◌
+      record_read s = rw (c, h, lt-leb (length (records img e)) i l, le-ltb (length buf) (length bs) s)
+
+      -- handed over to the buffer, as many bytes as it answers
+      pub record_handed : (r : Result ℕ Refusal) → r ≡ handed bs buf → deed (answered r i) img (buffer_after bs buf) ≡ read_deed img e i fmt buf
+      unfolding handed buffer_after
+      record_handed r is = rw is (go (ltb (length buf) (length bs)) refl)
+        where
+          go : (b : Bool) → ltb (length buf) (length bs) ≡ b → deed (answered (handed bs buf) i) img (buffer_after bs buf) ≡ read_deed img e i fmt buf
+          go true q = rw q (record_short (ltb-true _ _ q))
+          go false q = rw q (record_read (ltb-false _ _ q))
+
+-- a transfer that is not of text is one that was not asked for as such
+pub plain_read : (img e : List ℕ) (i : ℕ) (fmt : Bool) (buf : List ℕ) → as_text fmt e ≡ false → read_deed img e i false buf ≡ read_deed img e i fmt buf
+unfolding read_deed read_rules reading data_at
+plain_read img e i fmt buf t = rw (plain_handed fmt e t (record_at img e i), sent_handed e (record_at img e i)) refl

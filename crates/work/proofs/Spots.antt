@@ -4,17 +4,17 @@ use mathlib.Core.List.{List, []}
 use mathlib.Core.Bool.{true, false}
 use Prim.Native.Nat.{ℕ, ◌+◌, ◌≤◌, ◌<◌}
 use native.Mathlib.Omega.{arith}
-use lib.ListN.{length, take}
+use lib.ListN.{length}
 use Rattle.numbers.specs.Numbers.{record_limit}
-use Rattle.lists.specs.Parts.{part, over}
+use Rattle.lists.specs.Parts.{part}
 use Rattle.lists.proofs.AreBytes.{Bytes}
 use Rattle.lists.proofs.Lists.{all_at}
-use Rattle.lists.proofs.Fronts.{over_front}
 use Rattle.volume.specs.Directory.{entry_at, contiguous, record_length}
 use Rattle.volume.specs.declared.locate.Layout.{Layout}
 use Rattle.records.specs.Records.{allowed, records_of}
 use Rattle.records.specs.Code.Spots.{spot_of}
-use Rattle.records.specs.declared.record.Spot.TheVariants.{At}
+use Rattle.records.specs.declared.record.Extent.{Extent}
+use Rattle.std.specs.Prelude.{Some}
 use Rattle.records.proofs.RecordStreams.{allowed_small, records_allowed}
 use Rattle.ownership.specs.Blocks.{block}
 use Rattle.files.specs.Files.{stream, records, record_at}
@@ -32,12 +32,12 @@ pub record Told (img e : List ℕ) (i from len : ℕ) : Type 0 where
   pub is : part from len (stream img e) ≡ record_at img e i
   pub short : len ≤ record_limit
 
-pub told : (img : List ℕ) (p : Layout) (k : ℕ) → InUse img p k → contiguous (entry_at img k) ≡ false → Bytes img → (i from len : ℕ)
-    → spot_of (record_length (entry_at img k)) (stream img (entry_at img k)) i ≡ At from len → Told img (entry_at img k) i from len
+pub told : (img : List ℕ) (p : Layout) (k : ℕ) → InUse img p k → contiguous (entry_at img k) ≡ false → Bytes img → (i : ℕ) (q : Extent)
+    → spot_of (record_length (entry_at img k)) (stream img (entry_at img k)) i ≡ Some q → Told img (entry_at img k) i q.from q.len
 unfolding block record_at records
-told img p k u c b i from len e = record {
-  there = spot_there img p k u c b i from len e;
-  long = spot_long img p k u c b i from len e;
+told img p k u c b i q e = record {
+  there = spot_there img p k u c b i q e;
+  long = spot_long img p k u c b i q e;
   short =
       let F = used_Facts img p k u in
       let l : ℕ = record_length (entry_at img k) in
@@ -45,12 +45,8 @@ told img p k u c b i from len e = record {
       let h = slot_in img p k u in
       let fine : allowed l (record_at img (entry_at img k) i) ≡ true =
       all_at (allowed l) (records_of l s) i [] (records_allowed l s (record_length_lem img F k h u.used c) (stream_whole img F k h u.used c))
-      (spot_there img p k u c b i from len e) in
-      omega (arith, spot_long img p k u c b i from len e, allowed_small l (record_at img (entry_at img k) i) fine);
-  fits = omega (arith, spot_fits img p k u c b i from len e, stream_long img p k u c);
-  is = sym (spot_data img p k u c b i from len e);
+      (spot_there img p k u c b i q e) in
+      omega (arith, spot_long img p k u c b i q e, allowed_small l (record_at img (entry_at img k) i) fine);
+  fits = omega (arith, spot_fits img p k u c b i q e, stream_long img p k u c);
+  is = sym (spot_data img p k u c b i q e);
 }
-
--- the front of what those bytes were copied over is the record
-pub copied_front : (img e : List ℕ) (i from len : ℕ) → Told img e i from len → (d a : List ℕ) → a ≡ over (part from len (stream img e)) d → take len a ≡ record_at img e i
-copied_front img e i from len t d a h = rw (h, t.is, t.long) (over_front (record_at img e i) d)

@@ -1,16 +1,16 @@
 -- Which transfers are of text, and what that makes of the bytes that are sent and handed over.
 use Rattle.std.specs.Prelude.{if◌then◌else◌}
 use mathlib.Core.Path.{◌≡◌, refl, sym, ◌∙◌}
-use mathlib.Core.Bool.{Bool, true, false, not, ◌&&◌}
+use mathlib.Core.Bool.{Bool, true, false, not}
 use mathlib.Core.List.{List}
 use Prim.Native.Nat.{ℕ, ◌≤◌, ◌/◌}
 use native.Mathlib.Omega.{arith}
 use lib.ListN.{length}
-use lib.Dec.{eqb, leb}
+use lib.Dec.{leb}
 use borrow.Author.Tests.{eqb-true, not-true, not-false, leb-true, le-leb}
 use Rattle.numbers.specs.Numbers.{record_limit}
 use Rattle.lists.specs.Lists.{◌and◌, ◌or◌}
-use Rattle.lists.proofs.Bools.{and_is, and-true, or-false}
+use Rattle.lists.proofs.Bools.{or-false}
 use Rattle.lists.proofs.Tests.{and_left, and_right, both_true}
 use Rattle.lists.proofs.AreBytes.{Bytes}
 use Rattle.text.specs.Packing.{is_text, packed, unpacked}
@@ -19,14 +19,8 @@ use Rattle.text.proofs.PackedBytes.{packed-Bytes}
 use Rattle.volume.specs.Directory.{contiguous, record_length}
 use Rattle.records.specs.Records.{allowed}
 use Rattle.work.specs.Code.Runs.{text_fits}
+use Rattle.work.specs.Code.CodingLaws.{both_wrong}
 use Rattle.work.specs.Transfers.{units, wrong_length, as_text, stored_as, handed_as, unfit}
-
-both_wrong : (a t : Bool) → (not (a and true) or not t) ≡ not (a and t)
-unfolding ◌and◌ ◌or◌
-both_wrong true true = refl
-both_wrong true false = refl
-both_wrong false true = refl
-both_wrong false false = refl
 
 module _ (fmt : Bool) (e : List ℕ) where
   -- of text
@@ -71,7 +65,7 @@ module _ (fmt : Bool) (e : List ℕ) where
 
 -- a transfer that was not asked for as formatted is of the bytes as they are
 module _ (e : List ℕ) where
-  not_asked : as_text false e ≡ false
+  pub not_asked : as_text false e ≡ false
   unfolding as_text ◌and◌
   not_asked = refl
 
@@ -83,11 +77,6 @@ module _ (e : List ℕ) where
 
   pub sent_unfit : (bs : List ℕ) → unfit false e bs ≡ wrong_length e bs
   sent_unfit bs = plain_unfit false e not_asked bs
-
--- of a sequential file's record length as the code has it
-pub as_asked : (fmt : Bool) (e : List ℕ) (l : ℕ) → contiguous e ≡ false → l ≡ record_length e → fmt && eqb l 0 ≡ as_text fmt e
-unfolding as_text
-as_asked fmt e l c h = rw (h, c, and-true fmt) (and_is fmt (eqb (record_length e) 0))
 
 -- a contiguous file's are none
 pub contiguous_plain : (fmt : Bool) (e : List ℕ) → contiguous e ≡ true → as_text fmt e ≡ false
@@ -137,6 +126,10 @@ module _ (fmt : Bool) (e bs : List ℕ) where
       go : (b : Bool) → as_text fmt e ≡ b → wrong_length e (stored_as fmt e bs) ≡ false
       go true t = rw (text_stored fmt e t bs) (allowed_right e (packed bs) (text_sequential fmt e t) (packed-allowed e bs (text_variable fmt e t) (sent_fits h t)))
       go false t = rw (plain_stored fmt e t bs) (sym (plain_unfit fmt e t bs) ∙ h)
+
+  pub stored_allowed : contiguous e ≡ false → unfit fmt e bs ≡ false → allowed (record_length e) (stored_as fmt e bs) ≡ true
+  unfolding wrong_length
+  stored_allowed c h = not-false _ (rw c at (stored_fit h))
 
   pub stored_Bytes : Bytes bs → Bytes (stored_as fmt e bs)
   stored_Bytes b = go (as_text fmt e) refl

@@ -1,6 +1,6 @@
 -- Update, by what came of replacing the record.
 use Rattle.std.specs.Prelude.{if◌then◌else◌}
-use mathlib.Core.Path.{◌≡◌, refl}
+use mathlib.Core.Path.{◌≡◌, refl, ap}
 use mathlib.Core.Bool.{Bool, true, false}
 use mathlib.Core.List.{List}
 use Prim.Native.Nat.{ℕ, ◌<◌}
@@ -9,37 +9,39 @@ use lib.ListN.{length}
 use lib.Dec.{eqb, ltb}
 use borrow.Author.Tests.{ltb-true, le-leb, lt-leb, ltb-false}
 use Rattle.lists.specs.Lists.{◌and◌}
-use Rattle.text.specs.Packing.{packed}
-use Rattle.volume.specs.Directory.{contiguous, record_length}
-use Rattle.records.specs.Records.{allowed}
+use Rattle.volume.specs.Directory.{contiguous}
 use Rattle.files.specs.Files.{records, record_at, extent}
 use Rattle.files.specs.Code.Outcomes.{replaced_of, is_long}
-use Rattle.files.specs.declared.replace.Replaced.{Replaced}
+use Rattle.files.specs.declared.replace.ReplaceError.{ReplaceError}
 use Rattle.files.specs.Changes.{updated}
-use Rattle.work.specs.declared.Refusal.TheVariants.{PastEnd, OtherLength, BadRequest, BadLength}
-use Rattle.work.specs.declared.Worked.{Worked}
-use Rattle.work.specs.declared.Worked.TheVariants.{Did, Denied}
+use Rattle.work.specs.declared.Refusal.TheVariants.{BadRequest, BadLength}
+use Rattle.work.specs.declared.Refusal.{Refusal}
+use Rattle.work.specs.declared.Transfer.{Transfer}
+use Rattle.std.specs.Prelude.{Result, Ok, Err, IsErrAnd}
 use Rattle.work.specs.Refusals.{ruled}
-use Rattle.work.specs.Transfers.{units, moving, wrong_length, as_text, ended, replace_rules, update_rules, updating}
-use Rattle.work.specs.Code.Runs.{text_fits}
-use Rattle.work.specs.Code.Deeds.{deed, done_by, moved, update_deed, replace_deed}
-use Rattle.work.proofs.TextRules.{plain_unfit, plain_stored, sent_unfit, sent_stored, text_sequential, text_unfit, text_stored}
-use Rattle.files.specs.declared.replace.Replaced.TheVariants as replaced
+use Rattle.work.specs.Transfers.{units, moving, as_text, stored_as, unfit, ended, replace_rules, update_rules, updating}
+use Rattle.work.specs.Code.Deeds.{deed, done, refusal_of, done_by, moved, update_deed, replace_deed}
+use Rattle.work.proofs.TextRules.{plain_unfit, plain_stored, sent_unfit, sent_stored}
+use Rattle.files.specs.declared.replace.ReplaceError.TheVariants as replacing
 
 -- a record that was replaced is there
-pub replaced_there : (img e : List ℕ) (i n : ℕ) → replaced_of img e i n ≡ replaced.Done → i < length (records img e)
+pub replaced_there : (img e : List ℕ) (i n : ℕ) → replaced_of img e i n ≡ Ok tt → i < length (records img e)
 unfolding replaced_of
 replaced_there img e i n h = ltb-true _ _ (was (ltb i (length (records img e))) (eqb n (length (record_at img e i))) h)
   where
-    was : (a b : Bool) → (if a then (if b then replaced.Done else replaced.Other) else replaced.Past) ≡ replaced.Done → a ≡ true
+    was : (a b : Bool) → ◌≡◌ {A = Result Unit ReplaceError} (if a then (if b then Ok tt else Err replacing.OtherLength) else Err replacing.PastEnd) (Ok tt) → a ≡ true
     was true b h = refl
     was false b h = let z : ◌≡◌ {A = ℕ} 0 1 = cc in absurd (omega arith)
 
 -- the answer of a record of n bytes as number i
-abbrev pub answered : Replaced → ℕ → ℕ → Worked
-answered replaced.Past i n = Denied PastEnd
-answered replaced.Other i n = Denied OtherLength
-answered replaced.Done i n = Did n i 1
+abbrev pub answered : Result Unit ReplaceError → ℕ → ℕ → Result Transfer Refusal
+answered (Ok _) i n = done n i 1
+answered (Err why) i n = Err (refusal_of why)
+
+-- what `?` hands on of it
+pub passed_on : (r : Result Transfer Refusal) (why : ReplaceError) → IsErrAnd r (λ x. x ≡ refusal_of why) → r ≡ Err (refusal_of why)
+passed_on (Ok _) why h = absurd h
+passed_on (Err x) why h = ap Err h
 
 module _ (img e : List ℕ) (i : ℕ) (bs : List ℕ) where
   -- a transfer that is not of text is one that was not asked for as such
@@ -47,32 +49,22 @@ module _ (img e : List ℕ) (i : ℕ) (bs : List ℕ) where
   unfolding update_deed update_rules updating
   plain_update fmt t = rw (plain_unfit fmt e t bs, plain_stored fmt e t bs, sent_unfit e bs, sent_stored e bs) refl
 
-  pub update_contiguous : (fmt : Bool) → contiguous e ≡ true → deed (Denied BadRequest) img bs ≡ update_deed img e i fmt bs
+  pub update_contiguous : (fmt : Bool) → contiguous e ≡ true → deed (Err BadRequest) img bs ≡ update_deed img e i fmt bs
   unfolding update_deed update_rules done_by ruled
   update_contiguous fmt c = rw c
 
-  -- as it is sent
-  module _ (c : contiguous e ≡ false) where
-    pub update_wrong : allowed (record_length e) bs ≡ false → deed (Denied BadLength) img bs ≡ update_deed img e i false bs
-    unfolding update_deed update_rules wrong_length done_by ruled
-    update_wrong a = rw (sent_unfit e bs, c, a)
-
-    pub update_fine : allowed (record_length e) bs ≡ true → replace_deed img e i bs bs ≡ update_deed img e i false bs
-    unfolding update_deed replace_deed update_rules updating wrong_length done_by ruled
-    update_fine a = rw (sent_unfit e bs, sent_stored e bs, c, a)
-
-  -- as a text
-  module _ (t : as_text true e ≡ true) where
-    pub text_update_wrong : text_fits bs ≡ false → deed (Denied BadLength) img bs ≡ update_deed img e i true bs
+  -- of a sequential file, of text or not, by ss
+  module _ (c : contiguous e ≡ false) (t : Bool) where
+    pub update_wrong : unfit t e bs ≡ true → deed (Err BadLength) img bs ≡ update_deed img e i t bs
     unfolding update_deed update_rules done_by ruled
-    text_update_wrong a = rw (text_sequential true e t, text_unfit true e t bs, a)
+    update_wrong a = rw (c, a)
 
-    pub text_update_fine : text_fits bs ≡ true → replace_deed img e i (packed bs) bs ≡ update_deed img e i true bs
+    pub update_fine : (ss : List ℕ) → unfit t e bs ≡ false → stored_as t e bs ≡ ss → replace_deed img e i ss bs ≡ update_deed img e i t bs
     unfolding update_deed replace_deed update_rules updating done_by ruled
-    text_update_fine a = rw (text_sequential true e t, text_unfit true e t bs, text_stored true e t bs, a)
+    update_fine ss a s = rw (c, a, s)
 
   -- as ss: r came of it
-  pub update_came : (ss : List ℕ) → contiguous e ≡ false → (q r : Replaced) (out : List ℕ)
+  pub update_came : (ss : List ℕ) → contiguous e ≡ false → (q r : Result Unit ReplaceError) (out : List ℕ)
       → (q ≡ replaced_of img e i (length ss)) × (out ≡ (if is_long img e i (length ss) then updated e i ss img else img)) → q ≡ r
       → deed (answered r i (length bs)) out bs ≡ replace_deed img e i ss bs
   unfolding replaced_of is_long replace_deed replace_rules moving moved units ended extent done_by ruled ◌and◌

@@ -1,2 +1,4 @@
 pub mod Deeds
 pub mod Runs
+pub mod Codings
+pub mod CodingLaws

@@ -1,103 +1,71 @@
 // Read: of a contiguous file some sectors, of a sequential one a record.
 ghost use Rattle.std.specs.Prelude.{◌≡◌, false, ◌+◌, ◌*◌, ◌≤◌, length};
 ghost use Rattle.numbers.specs.Numbers.{most_sectors};
-ghost use Rattle.lists.specs.Parts.{part, over};
 ghost use Rattle.volume.specs.Directory.{entry_at, contiguous};
-ghost use Rattle.text.specs.Packing.{unpacked};
-ghost use Rattle.files.specs.Files.{stream, records, record_at};
 ghost use Rattle.files.specs.Code.Slots.{InUse};
+ghost use Rattle.work.specs.Transfers.{as_text};
 ghost use Rattle.work.specs.Code.Deeds.{deed, read_deed};
-ghost use Rattle.work.specs.Code.Runs.{read_run, read_one};
+ghost use Rattle.work.specs.Code.Runs.{read_run};
 
+use crate::codings::{Coding, Plain, Text};
 use crate::lengths::{fewer, odd_length};
 use crate::texts::as_text;
-use crate::{Refusal, Worked};
+use crate::{Refusal, Transfer};
 use files::extent::record_of;
-use files::map::load_map;
-use files::slot::{is_contiguous, sectors_in, start_of};
+use files::map::map_of;
 use lists::parts::read_sectors;
-use numbers::{MOST_SECTORS, RECORD_LIMIT};
-use records::record::Spot;
-use records::stream::read_record;
-use text::unpacking::{text_length, unpack};
+use numbers::MOST_SECTORS;
+use records::stream::Stream;
+use volume::directory::{contiguous, entry_of, size, start};
 use volume::locate::Layout;
 
-// Copies `len` bytes from `from` on of the stream of the sequential file in a slot.
-fn copy_stream(image: &[u8], p: Layout, slot: usize, from: usize, len: usize, buffer: &mut [u8])
-    requires { InUse image.now p slot × (contiguous (entry_at image.now slot) ≡ false)
-        × (from + len ≤ length (stream image.now (entry_at image.now slot))) × (len ≤ length buffer.old) }
-    ensures { buffer.new ≡ over (part from len (stream image.now (entry_at image.now slot)))
-        buffer.old }
-{
-    let s = start_of(image, p, slot);
-    let mut map = [0u16; MOST_SECTORS];
-    let n = load_map(image, s, &mut map);
-    read_record(image, &map[..n], from, len, buffer);
-}
-
 // From number i on, of the n sectors that start at s.
-fn read_run(image: &[u8], s: usize, n: usize, i: usize, buffer: &mut [u8]) -> Worked
+fn read_run(
+    image: &[u8],
+    s: usize,
+    n: usize,
+    i: usize,
+    buffer: &mut [u8],
+) -> Result<Transfer, Refusal>
     requires { (s + n ≤ most_sectors) × (256 * (s + n) ≤ length image.now) }
     ensures { deed result image.now buffer.new ≡ read_run image.now s n i buffer.old }
 {
     if odd_length(buffer.len()) {
-        return Worked::Denied(Refusal::BadLength);
+        return Err(Refusal::BadLength);
     }
     if n <= i {
-        return Worked::Denied(Refusal::PastEnd);
+        return Err(Refusal::PastEnd);
     }
     let k = fewer(n, i, buffer.len() / 256);
     read_sectors(image, s + i, k, buffer);
-    Worked::Did {
+    Ok(Transfer {
         bytes: (256 * k) as u32,
         from: i as u32,
         count: k as u32,
-    }
+    })
 }
 
-// Record i of the sequential file in a slot.
-fn read_one(image: &[u8], p: Layout, slot: usize, i: usize, buffer: &mut [u8]) -> Worked
-    requires { InUse image.now p slot × (contiguous (entry_at image.now slot) ≡ false) }
-    ensures { deed result image.now buffer.new ≡ read_one image.now
-        (length (records image.now (entry_at image.now slot))) i
-        (record_at image.now (entry_at image.now slot) i) buffer.old }
+// Record i of the sequential file in a slot, decoded.
+fn read_coded<C: Coding>(
+    image: &[u8],
+    p: Layout,
+    slot: usize,
+    i: usize,
+    buffer: &mut [u8],
+) -> Result<Transfer, Refusal>
+    requires { InUse image.now p slot × (contiguous (entry_at image.now slot) ≡ false)
+        × (as_text C.text (entry_at image.now slot) ≡ C.text) }
+    ensures { deed result image.now buffer.new ≡ read_deed image.now (entry_at image.now slot) i C.text buffer.old }
 {
-    let Spot::At { from, len } = record_of(image, p, slot, i) else {
-        return Worked::Denied(Refusal::PastEnd);
-    };
-    if buffer.len() < len {
-        return Worked::Denied(Refusal::BadLength);
-    }
-    copy_stream(image, p, slot, from, len, buffer);
-    Worked::Did {
-        bytes: len as u32,
-        from: i as u32,
-        count: 1,
-    }
-}
-
-// The text of record i of the variable file in a slot. Its length is counted before a byte of the buffer changes.
-fn read_text(image: &[u8], p: Layout, slot: usize, i: usize, buffer: &mut [u8]) -> Worked
-    requires { InUse image.now p slot × (contiguous (entry_at image.now slot) ≡ false) }
-    ensures { deed result image.now buffer.new ≡ read_one image.now
-        (length (records image.now (entry_at image.now slot))) i
-        (unpacked (record_at image.now (entry_at image.now slot) i)) buffer.old }
-{
-    let Spot::At { from, len } = record_of(image, p, slot, i) else {
-        return Worked::Denied(Refusal::PastEnd);
-    };
-    let mut stored = [0u8; RECORD_LIMIT];
-    copy_stream(image, p, slot, from, len, &mut stored);
-    let n = text_length(&stored[..len]);
-    if buffer.len() < n {
-        return Worked::Denied(Refusal::BadLength);
-    }
-    unpack(&stored[..len], buffer);
-    Worked::Did {
+    let spot = record_of(image, p, slot, i).ok_or(Refusal::PastEnd)?;
+    let mut room = [0u16; MOST_SECTORS];
+    let map = map_of(image, start(entry_of(image, p, slot)), &mut room);
+    let n = C::hand_over(&Stream { img: image, map }, spot.from, spot.len, buffer)?;
+    Ok(Transfer {
         bytes: n as u32,
         from: i as u32,
         count: 1,
-    }
+    })
 }
 
 /// Reads sectors or a record of the file in a slot into the buffer, from its number i on; a variable record as its text, if that is
@@ -109,18 +77,17 @@ pub fn read(
     i: usize,
     formatted: bool,
     buffer: &mut [u8],
-) -> Worked
+) -> Result<Transfer, Refusal>
     requires { InUse image.now p slot }
     ensures { deed result image.now buffer.new ≡ read_deed image.now (entry_at image.now slot) i
         formatted buffer.old }
 {
-    if is_contiguous(image, p, slot) {
-        let s = start_of(image, p, slot);
-        let n = sectors_in(image, p, slot);
-        return read_run(image, s, n, i, buffer);
+    let e = entry_of(image, p, slot);
+    if contiguous(e) {
+        return read_run(image, start(e), size(e), i, buffer);
     }
     if as_text(image, p, slot, formatted) {
-        return read_text(image, p, slot, i, buffer);
+        return read_coded::<Text>(image, p, slot, i, buffer);
     }
-    read_one(image, p, slot, i, buffer)
+    read_coded::<Plain>(image, p, slot, i, buffer)
 }

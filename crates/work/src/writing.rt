@@ -8,48 +8,52 @@ ghost use Rattle.work.specs.Transfers.{as_text};
 ghost use Rattle.work.specs.Code.Deeds.{deed, write_deed, store_deed, append_deed};
 ghost use Rattle.work.specs.Code.Runs.{crosses};
 
-use crate::lengths::{allowed, odd_length};
-use crate::texts::{as_text, text_fits};
-use crate::{Refusal, Worked};
+use crate::codings::{Coding, Plain, Text};
+use crate::lengths::odd_length;
+use crate::texts::as_text;
+use crate::{Refusal, Transfer};
 use files::appending::{append, needed_sectors, segments_after};
 use files::extent::extent_of;
 use files::replace::overwrite;
-use files::slot::{is_contiguous, record_length, sectors_in};
 use numbers::{MOST_SEGMENTS, RECORD_LIMIT};
 use ownership::owners::free_sectors;
-use text::packing::pack;
+use volume::directory::{contiguous, entry_of, record_length, size};
 use volume::locate::Layout;
 
 // Whether k sectors from number i on start at or past the end of n, or cross it.
+#[tactic(auto, using(lists::proofs::Steps::bool_steps, std::proofs::lemmas::Bool::Decides::nat_tests), unfolding(crate::specs::Code::Runs::crosses))]
 fn crosses(n: usize, i: usize, k: usize) -> bool
     requires { (n < 65536) × (k ≤ most_moved) }
     ensures { result ≡ crosses n i k }
 {
-    if n <= i {
-        return true;
-    }
-    n < i + k
+    n <= i || n < i + k
 }
 
 // Sectors from number i on, of the contiguous file in a slot.
-fn write_run(image: &mut [u8], p: Layout, slot: usize, i: usize, data: &[u8]) -> Worked
+fn write_run(
+    image: &mut [u8],
+    p: Layout,
+    slot: usize,
+    i: usize,
+    data: &[u8],
+) -> Result<Transfer, Refusal>
     requires { InUse image.old p slot × (contiguous (entry_at image.old slot) ≡ true) }
     ensures { deed result image.new «data».now ≡ write_deed image.old slot i
         false «data».now }
 {
     if odd_length(data.len()) {
-        return Worked::Denied(Refusal::BadLength);
+        return Err(Refusal::BadLength);
     }
     let k = data.len() / 256;
-    if crosses(sectors_in(image, p, slot), i, k) {
-        return Worked::Denied(Refusal::PastEnd);
+    if crosses(size(entry_of(image, p, slot)), i, k) {
+        return Err(Refusal::PastEnd);
     }
     overwrite(image, p, slot, i, data);
-    Worked::Did {
+    Ok(Transfer {
         bytes: data.len() as u32,
         from: i as u32,
         count: k as u32,
-    }
+    })
 }
 
 // Of a record stored for the data that were sent, if it may be appended as number i and there is room for it.
@@ -60,23 +64,23 @@ fn write_next(
     i: usize,
     stored: &[u8],
     data: &[u8],
-) -> Worked
+) -> Result<Transfer, Refusal>
     requires { (i < 4294967296) × Adds image.old p slot stored.now × (length «data».now ≤ record_limit) }
     ensures { deed result image.new «data».now ≡ append_deed image.old slot i stored.now
         «data».now }
 {
     if free_sectors(image, p) < needed_sectors(image, p, slot, stored) {
-        return Worked::Denied(Refusal::NoRoom);
+        return Err(Refusal::NoRoom);
     }
     if MOST_SEGMENTS < segments_after(image, p, slot, stored) {
-        return Worked::Denied(Refusal::NoSegment);
+        return Err(Refusal::NoSegment);
     }
     append(image, p, slot, stored);
-    Worked::Did {
+    Ok(Transfer {
         bytes: data.len() as u32,
         from: i as u32,
         count: 1,
-    }
+    })
 }
 
 // Of a record stored for the data that were sent: only the next one can be written.
@@ -87,45 +91,39 @@ fn write_stored(
     i: usize,
     stored: &[u8],
     data: &[u8],
-) -> Worked
+) -> Result<Transfer, Refusal>
     requires { Adds image.old p slot stored.now × (length «data».now ≤ record_limit) }
     ensures { deed result image.new «data».now ≡ store_deed image.old slot i stored.now
         «data».now }
 {
     let n = extent_of(image, p, slot);
     if n < i {
-        return Worked::Denied(Refusal::PastEnd);
+        return Err(Refusal::PastEnd);
     }
     if i < n {
-        return Worked::Denied(Refusal::Exists);
+        return Err(Refusal::Exists);
     }
     write_next(image, p, slot, i, stored, data)
 }
 
-// A record of the sequential file in a slot, as it is sent.
-fn write_one(image: &mut [u8], p: Layout, slot: usize, i: usize, data: &[u8]) -> Worked
-    requires { InUse image.old p slot × (contiguous (entry_at image.old slot) ≡ false) }
-    ensures { deed result image.new «data».now ≡ write_deed image.old slot i
-        false «data».now }
+// A record of the sequential file in a slot, coded.
+fn write_record<C: Coding>(
+    image: &mut [u8],
+    p: Layout,
+    slot: usize,
+    i: usize,
+    data: &[u8],
+) -> Result<Transfer, Refusal>
+    requires { InUse image.old p slot × (contiguous (entry_at image.old slot) ≡ false)
+        × (as_text C.text (entry_at image.old slot) ≡ C.text) }
+    ensures { deed result image.new «data».now ≡ write_deed image.old slot i C.text «data».now }
 {
-    if !allowed(record_length(image, p, slot), data) {
-        return Worked::Denied(Refusal::BadLength);
+    if !C::may_send(record_length(entry_of(image, p, slot)), data) {
+        return Err(Refusal::BadLength);
     }
-    write_stored(image, p, slot, i, data, data)
-}
-
-// A text, packed, as a record of the variable file in a slot.
-fn write_text(image: &mut [u8], p: Layout, slot: usize, i: usize, data: &[u8]) -> Worked
-    requires { InUse image.old p slot × (as_text true (entry_at image.old slot) ≡ true) }
-    ensures { deed result image.new «data».now ≡ write_deed image.old slot i
-        true «data».now }
-{
-    if !text_fits(data) {
-        return Worked::Denied(Refusal::BadLength);
-    }
-    let mut packed = [0u8; RECORD_LIMIT];
-    let n = pack(data, &mut packed);
-    write_stored(image, p, slot, i, &packed[..n], data)
+    let mut room = [0u8; RECORD_LIMIT];
+    let stored = C::store(data, &mut room);
+    write_stored(image, p, slot, i, stored, data)
 }
 
 /// Writes sectors of the file in a slot, or appends a record to it, from its number i on; to a variable file the data as a text, if that
@@ -138,16 +136,16 @@ pub fn write(
     i: usize,
     formatted: bool,
     data: &[u8],
-) -> Worked
+) -> Result<Transfer, Refusal>
     requires { InUse image.old p slot }
     ensures { deed result image.new «data».now ≡ write_deed image.old slot i
         formatted «data».now }
 {
-    if is_contiguous(image, p, slot) {
+    if contiguous(entry_of(image, p, slot)) {
         return write_run(image, p, slot, i, data);
     }
     if as_text(image, p, slot, formatted) {
-        return write_text(image, p, slot, i, data);
+        return write_record::<Text>(image, p, slot, i, data);
     }
-    write_one(image, p, slot, i, data)
+    write_record::<Plain>(image, p, slot, i, data)
 }

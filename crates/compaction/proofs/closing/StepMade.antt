@@ -11,7 +11,6 @@ use lib.Dec.{eqb, leb, ltb}
 use borrow.Author.Tests.{eqb-true, eqb-false, leb-true, leb-false, le-ltb, lt-ltb}
 use Rattle.numbers.specs.Numbers.{most_segments, most_sectors}
 use Rattle.lists.specs.Lists.{index}
-use Rattle.lists.specs.Parts.{sectors}
 use Rattle.volume.specs.Volume.{dirs}
 use Rattle.volume.specs.Directory.{entry_at, contiguous}
 use Rattle.volume.specs.Code.Located.{Located}

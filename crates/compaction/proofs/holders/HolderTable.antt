@@ -3,17 +3,20 @@ use Rattle.std.specs.Prelude.{if◌then◌else◌}
 use mathlib.Core.Path.{◌≡◌, refl, sym, ap, ◌∙◌}
 use mathlib.Core.Bool.{Bool, true, false, not}
 use mathlib.Core.List.{List, [], ◌∷◌, ◌++◌}
-use Prim.Native.Nat.{ℕ, suc, ◌+◌, ◌-◌, ◌*◌, ◌<◌, ◌≤◌}
+use Prim.Native.Nat.{ℕ, zero, suc, ◌+◌, ◌-◌, ◌*◌, ◌<◌, ◌≤◌}
 use native.Mathlib.Numerals.{add-one}
 use native.Mathlib.Omega.{arith}
 use native.Mathlib.Nat.{zero-add}
-use lib.ListN.{length, get_or, set, drop, replicate, length-set, length-replicate, get_or-replicate}
+use lib.ListN.{length, get_or, set, take, drop, replicate, length-set, length-replicate, get_or-replicate}
 use lib.Seq.{drop-cons, drop-length, get_or-set_same, get_or-set_other}
 use lib.Dec.{eqb}
 use borrow.Author.Tests.{eqb-true, eqb-false, eq-eqb, ne_eqb}
+use borrow.Rule.Slice.PartMut.{put_mid}
 use Rattle.numbers.specs.Numbers.{most_sectors}
 use Rattle.lists.specs.Lists.{◌or◌, range, flat, index, among}
-use Rattle.lists.proofs.Ranges.{range-cons, range_end}
+use Rattle.lists.specs.Parts.{part, put}
+use Rattle.lists.proofs.LentParts.{wrote_fill, put_next}
+use Rattle.lists.proofs.Puts.{put_one, put-part}
 use Rattle.lists.proofs.IndexFound.{index_here, index_later}
 use Rattle.volume.specs.Volume.{dirs}
 use Rattle.volume.specs.Directory.{entries, entry_at}
@@ -45,14 +48,24 @@ module _ (k : ℕ) where
   unfolding given
   given_none xs who e = rw e
 
-  -- a run, one sector more; and done
-  pub given_more : (i e : ℕ) (who : List ℕ) → i < e → given k (range i (e - i)) who ≡ given k (range (i + 1) (e - (i + 1))) (set who i k)
-  unfolding given
-  given_more i e who h = rw (range-cons i e h)
+  -- a run is filled at once
+  no_part : (s : ℕ) (who : List ℕ) → part s 0 who ≡ []
+  unfolding part
+  no_part s who = refl
 
-  pub given_end : (i e : ℕ) (who : List ℕ) → e ≤ i → given k (range i (e - i)) who ≡ who
-  unfolding given
-  given_end i e who h = rw (range_end i e h)
+  put_run : (n s : ℕ) (who : List ℕ) → s + n ≤ length who → put s (replicate n k) who ≡ given k (range s n) who
+  unfolding given range
+  put_run zero s who h = rw (← no_part s who) (put-part s 0 who h)
+  put_run (suc n) s who h =
+      let z : s + 1 ≡ suc s = add-one s in
+      sym (put_next s (k ∷ []) (replicate n k) who (omega (arith, length-replicate n k)))
+      ∙ rw (z, sym (put_one s k who (omega arith))) (put_run n (suc s) (set who s k) (omega (arith, length-set who s k)))
+
+  pub given_run : (s n : ℕ) (who b : List ℕ) → s + n ≤ length who → b ≡ replicate (length (take (s + n - s) (drop s who))) k
+      → put_mid s (s + n - s) who b ≡ given k (range s n) who
+  given_run s n who b h e =
+      let z : s + n - s ≡ n = omega arith in
+      wrote_fill s (s + n) k who b (omega arith) h e ∙ ap (λ (m : ℕ). put s (replicate m k) who) z ∙ put_run n s who h
 
   -- segments, one more; and done
   given-append : (xs ys who : List ℕ) → given k (xs ++ ys) who ≡ given k ys (given k xs who)

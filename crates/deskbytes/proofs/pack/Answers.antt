@@ -16,7 +16,7 @@ use Rattle.deskbytes.proofs.pack.Goals as goal
 
 pub loop-k-init : goal.loop-k-init
 unfolding flat
-loop-k-init c = (search rules, c.requires, refl)
+loop-k-init c = (c.requires, refl)
 
 pub loop-k-preserved : goal.loop-k-preserved
 unfolding free_lun
@@ -26,14 +26,10 @@ loop-k-preserved c =
     let l = c.loop-k in
     let u = get_or c.args.luns l.k free_lun in
     let n = length-packed_lun u in
-    let w = wrote (lun_bytes * l.k) (lun_bytes * l.k + lun_bytes) l.out _ (packed_lun u) (omega arith) c.pack_lun.ensures (n ∙ omega arith) in (
-      omega arith,
-      ap length w ∙ length-put (lun_bytes * l.k) (packed_lun u) l.out (omega (arith, n, l.invariant.1)) ∙ l.invariant.1,
-      ap (take (lun_bytes * (l.k + 1))) w ∙ flat-put packed_lun lun_bytes c.args.luns l.k free_lun l.out (omega (arith, long)) n (omega (arith, l.invariant.1)) l.invariant.2,
+    let w = wrote (lun_bytes * l.k) (lun_bytes * l.k + lun_bytes) l.out _ (packed_lun u) (omega arith) (c.copy_from_slice.ensures.after ∙ c.packed_lun.ensures) (n ∙ omega arith) in (
+      ap length w ∙ length-put (lun_bytes * l.k) (packed_lun u) l.out (omega (arith, n, l.invariant.0)) ∙ l.invariant.0,
+      ap (take (lun_bytes * (l.k + 1))) w ∙ flat-put packed_lun lun_bytes c.args.luns l.k free_lun l.out (omega (arith, long)) n (omega (arith, l.invariant.0)) l.invariant.1,
     )
-
-pub shape_of-out : goal.shape_of-out
-shape_of-out c = c.loop-k.invariant.1 ∙ sym c.requires
 
 pub returns : goal.returns
 unfolding packed_luns
@@ -41,5 +37,5 @@ returns c =
     let long : length c.args.luns ≡ 16 =
     search (rules, length_of_map) in
     let l = c.loop-k in
-    sym (take_all (lun_bytes * l.k) l.out (omega (arith, l.invariant.1))) ∙ l.invariant.2
+    sym (take_all (lun_bytes * l.k) l.out (omega (arith, l.invariant.0))) ∙ l.invariant.1
     ∙ ap (flat packed_lun) (take_all l.k _ (omega (arith, long)))

@@ -99,16 +99,18 @@ module _ (v : List ℕ) (p : Layout) (k : ℕ) (r : List ℕ) (A : Adds v p k r)
   pub adds_most : needed v (entry_at v k) r ≤ most_new
   adds_most = rw most_new_lem (needed_few v F k hk u c r record_limit adds_short)
 
-  -- the new sectors, as the code has stored them
-  pub adds_new : (n : ℕ) (m d : List ℕ) → n ≡ needed v (entry_at v k) r → needed v (entry_at v k) r ≤ free v → m ≡ over (lowest n v) d → take n m ≡ new_sectors v (entry_at v k) r
-  unfolding over new_sectors
-  adds_new n m d en h em = ap (take n) em ∙ take_at (lowest n v) (drop (length (lowest n v)) d) n (length-lowest v n (omega arith)) ∙ ap (λ (i : ℕ). lowest i v) en
+  -- the new sectors, as the code finds them
+  pub adds_new : (n : ℕ) (ss : List ℕ) → n ≡ needed v (entry_at v k) r → ss ≡ lowest n v → ss ≡ new_sectors v (entry_at v k) r
+  unfolding new_sectors
+  adds_new n ss en es = rw (es, en)
+
+-- the sectors at the front of the room in which they were stored
+pub lowest_front : (v : List ℕ) (n : ℕ) (m d : List ℕ) → n ≤ free v → m ≡ over (lowest n v) d → take n m ≡ lowest n v
+unfolding over
+lowest_front v n m d h em = ap (take n) em ∙ take_at (lowest n v) (drop (length (lowest n v)) d) n (length-lowest v n h)
 
 -- the table of a located volume, and the search in it
 module _ (v : List ℕ) (p : Layout) (l : Located v p) (b : List ℕ) (is : b ≡ sector p.sat v) where
-  pub table_long : length b ≡ 256
-  table_long = ap length is ∙ length-sector p.sat v (omega (arith, l.sat_in, l.long))
-
   pub table_free : kept (is_free b) (range 0 p.t) ≡ free_sectors v
   unfolding free_sectors sat
   table_free = rw (is, l.is_t, l.is_sat)

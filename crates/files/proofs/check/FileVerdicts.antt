@@ -1,5 +1,8 @@
 -- The verdict on one file, from what its stream is found to hold; by the rule of before there were record counts too.
 use Rattle.std.specs.Prelude.{if◌then◌else◌}
+use Rattle.std.specs.Option.{option_eq}
+use Rattle.std.proofs.lemmas.Bool.Decides.{nat_tests}
+use native.Mathlib.Omega.{arith}
 use mathlib.Core.Path.{◌≡◌, refl, ap, ◌∙◌}
 use mathlib.Core.Bool.{Bool, true, false}
 use mathlib.Core.List.{List}
@@ -15,10 +18,10 @@ use Rattle.lists.proofs.Tests.{not_both}
 use Rattle.volume.specs.Directory.{unused, contiguous, start, record_length, record_count}
 use Rattle.records.specs.Code.Spots.{counted_of}
 use Rattle.records.specs.Records.{whole_records, records_of}
-use Rattle.records.specs.declared.record.Counted.TheVariants.{Whole, Broken}
+use Rattle.std.specs.Prelude.{Some, None}
 use Rattle.ownership.specs.Blocks.{stream_length}
 use Rattle.files.specs.Code.Opens.{stored_at, stream_at}
-use Rattle.files.specs.Code.Verdict.{counts_as, content_of, stream_count, file_sound, file_before, records_before, count_before}
+use Rattle.files.specs.Code.Verdict.{content_of, stream_count, file_sound, file_before, records_before, count_before}
 use Rattle.files.specs.Files.{records, tail_sound, records_sound, count_is, records_in, no_count}
 use Rattle.files.proofs.map.OpenBlock.{stream_at_lem, content_at}
 
@@ -32,13 +35,16 @@ module _ (img e : List ℕ) where
   unfolding file_sound tail_sound records_sound count_is ◌and◌ ◌or◌
   sound_run u c = rw (u, c)
 
-  pub before_none : unused e ≡ true → Whole 0 ≡ count_before img e
+  pub before_none : unused e ≡ true → Some 0 ≡ count_before img e
   unfolding count_before records_before file_before tail_sound records_sound count_is ◌and◌ ◌or◌
   before_none u = rw u
 
-  pub before_run : unused e ≡ false → contiguous e ≡ true → Whole 0 ≡ count_before img e
+  pub before_run : unused e ≡ false → contiguous e ≡ true → Some 0 ≡ count_before img e
   unfolding count_before records_before file_before tail_sound records_sound count_is ◌and◌ ◌or◌
   before_run u c = rw (u, c)
+
+either_way : (a b : ℕ) → eqb a b ≡ eqb b a
+either_way a b = grind (arith, nat_tests)
 
 -- one that has
 module _ (img e : List ℕ) (u : unused e ≡ false) (c : contiguous e ≡ false) where
@@ -56,7 +62,7 @@ module _ (img e : List ℕ) (u : unused e ≡ false) (c : contiguous e ≡ false
   n_is = rw (stream_at_lem img e u c)
 
   -- what is found
-  found : stream_count img (start e) (record_length e) ≡ (if z then (if w then Whole n else Broken) else Broken)
+  found : stream_count img (start e) (record_length e) ≡ (if z then (if w then Some n else None) else None)
   unfolding stream_count content_of counted_of z w
   found = rw n_is
 
@@ -68,22 +74,22 @@ module _ (img e : List ℕ) (u : unused e ≡ false) (c : contiguous e ≡ false
   unfolding z w
   content = content_at img e u c
 
-  counts : (a b : Bool) (m : ℕ) → counts_as m (if a then (if b then Whole n else Broken) else Broken) ≡ a and b and eqb m n
+  counts : (a b : Bool) (m : ℕ) → option_eq eqb (if a then (if b then Some n else None) else None) (Some m) ≡ a and b and eqb m n
   unfolding ◌and◌
-  counts true true m = refl
+  counts true true m = either_way n m
   counts true false m = refl
   counts false b m = refl
 
-  pub sound_records : counts_as (record_count e) (stream_count img (start e) (record_length e)) ≡ file_sound img e
+  pub sound_records : option_eq eqb (stream_count img (start e) (record_length e)) (Some (record_count e)) ≡ file_sound img e
   unfolding file_sound
-  sound_records = ap (counts_as (record_count e)) found ∙ counts z w (record_count e) ∙ rw (content, count_is_lem (records_in img))
+  sound_records = ap (λ c. option_eq eqb c (Some (record_count e))) found ∙ counts z w (record_count e) ∙ rw (content, count_is_lem (records_in img))
 
   -- by the rule of before
-  pub before_bad : record_count e ≢ 0 → Broken ≡ count_before img e
+  pub before_bad : record_count e ≢ 0 → None ≡ count_before img e
   unfolding count_before file_before no_count
   before_bad h = rw (content, count_is_lem no_count, ne_eqb (record_count e) 0 h, and-false (z and w))
 
-  picked : (a b : Bool) → (if a then (if b then Whole n else Broken) else Broken) ≡ (if a and b then Whole n else Broken)
+  picked : (a b : Bool) → (if a then (if b then Some n else None) else None) ≡ (if a and b then Some n else None)
   unfolding ◌and◌
   picked true b = refl
   picked false b = refl

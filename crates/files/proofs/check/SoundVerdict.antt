@@ -1,5 +1,6 @@
 -- The verdict on a volume, from the verdicts on its points.
 use Rattle.std.specs.Prelude.{if◌then◌else◌}
+use Rattle.std.specs.Bool.{then_some}
 use mathlib.Core.Path.{◌≡◌, refl, sym, ap, ◌∙◌}
 use mathlib.Core.Bool.{true, Bool, false}
 use mathlib.Core.List.{List}
@@ -14,12 +15,11 @@ use Rattle.volume.specs.Volume.{sound1, layout_of}
 use Rattle.volume.specs.Directory.{entries, sound2}
 use Rattle.volume.specs.Sat.{free}
 use Rattle.volume.specs.Code.Located.{Located}
-use Rattle.volume.specs.declared.locate.Where.TheVariants.{At, Nowhere}
+use Rattle.std.specs.Prelude.{Some, None}
 use Rattle.volume.proofs.Located.{Layout-is, Located-sound}
 use Rattle.ownership.specs.Owners.{all_owned, sound5}
 use Rattle.ownership.specs.Blocks.{sound3}
 use Rattle.ownership.specs.Code.Verdict.{owner_sound, judged_of}
-use Rattle.ownership.specs.declared.judge.Judged.TheVariants.{Unsound}
 use Rattle.ownership.proofs.Verdicts.{OwnerSound, owner_by, unsound_judged}
 use Rattle.files.specs.Files.{sound4, sound_but_counts, count_is, counts_are, records_in, no_count, tail_sound, records_sound, sound, sound_before}
 use Rattle.files.specs.Code.Verdict.{file_sound, file_before, sound_at, checked_of}
@@ -58,44 +58,51 @@ module _ (img : List ℕ) where
   unfolding sound_before file_before
   parts_before = by_file no_count
 
-  pub judged_nowhere : judged_of img ≡ Unsound → Nowhere ≡ sound_at img
+  pub judged_nowhere : judged_of img ≡ None → None ≡ sound_at img
   unfolding sound_at ◌and◌
   judged_nowhere e = rw (parts, unsound_judged img e)
 
-  pub judged_not_before : judged_of img ≡ Unsound → sound_before img ≡ false
+  pub judged_not_before : judged_of img ≡ None → sound_before img ≡ false
   unfolding ◌and◌
   judged_not_before e = rw (parts_before, unsound_judged img e)
 
   module _ (p : Layout) (h : OwnerSound img p) where
-    pub judged_bad : all (file_sound img) (entries img) ≡ false → Nowhere ≡ sound_at img
+    judged_bad : all (file_sound img) (entries img) ≡ false → None ≡ sound_at img
     unfolding sound_at ◌and◌
     judged_bad e = rw (parts, owner_by img p h, e)
 
-    pub judged_good : all (file_sound img) (entries img) ≡ true → At p ≡ sound_at img
+    judged_good : all (file_sound img) (entries img) ≡ true → Some p ≡ sound_at img
     unfolding sound_at ◌and◌
-    judged_good e = rw (parts, owner_by img p h, e) (ap At (Layout-is img p h.located))
+    judged_good e = rw (parts, owner_by img p h, e) (ap Some (Layout-is img p h.located))
+
+    pub judged_then : then_some (all (file_sound img) (entries img)) p ≡ sound_at img
+    judged_then = go (all (file_sound img) (entries img)) refl
+      where
+        go : (b : Bool) → all (file_sound img) (entries img) ≡ b → then_some b p ≡ sound_at img
+        go true e = judged_good e
+        go false e = judged_bad e
 
     pub judged_before : sound_before img ≡ all (file_before img) (entries img)
     unfolding ◌and◌
     judged_before = rw (parts_before, owner_by img p h)
 
   -- what the places of a sound volume say
-  pub sound-Layout : (p : Layout) → sound_at img ≡ At p → (sound img ≡ true) × Located img p
+  pub sound-Layout : (p : Layout) → sound_at img ≡ Some p → (sound img ≡ true) × Located img p
   unfolding sound_at
   sound-Layout p e = go (sound img) refl e
     where
-      go : (b : Bool) → sound img ≡ b → (if b then At (layout_of img) else Nowhere) ≡ At p → (sound img ≡ true) × Located img p
+      go : (b : Bool) → sound img ≡ b → (if b then Some (layout_of img) else None) ≡ Some p → (sound img ≡ true) × Located img p
       go true h e =
           let q : layout_of img ≡ p = cc in
           let F : Facts img = facts img h in
           (h, rw q at (Located-sound img F.one))
       go false h e = absurd (let z : ◌≡◌ {A = ℕ} 0 1 = cc in omega arith)
 
-  pub no_layout : sound_at img ≡ Nowhere → sound img ≡ false
+  pub no_layout : sound_at img ≡ None → sound img ≡ false
   unfolding sound_at
   no_layout e = go (sound img) refl e
     where
-      go : (b : Bool) → sound img ≡ b → (if b then At (layout_of img) else Nowhere) ≡ Nowhere → sound img ≡ false
+      go : (b : Bool) → sound img ≡ b → (if b then Some (layout_of img) else None) ≡ None → sound img ≡ false
       go true h e = absurd (let z : ◌≡◌ {A = ℕ} 0 1 = cc in omega arith)
       go false h e = h
 

@@ -1,7 +1,8 @@
 -- The loops of a bring-up: counts found slot by slot, and written slot by slot.
-use Rattle.std.specs.Prelude.{if◌then◌else◌}
+use Rattle.std.specs.Prelude.{if◌then◌else◌, Result, Ok, Err}
 use mathlib.Core.Path.{◌≡◌, refl, ap, sym, ◌∙◌}
-use mathlib.Core.Bool.{Bool, true, false}
+use Rattle.std.specs.Result.{is_ok, is_err}
+use mathlib.Core.Bool.{Bool, true, false, true≢false}
 use mathlib.Core.List.{List}
 use Prim.Native.Nat.{ℕ, ◌+◌, ◌*◌, ◌≤◌, ◌<◌}
 use native.Mathlib.Decide.{ℕ_discrete}
@@ -14,11 +15,11 @@ use Rattle.lists.proofs.Puts.{length-put}
 use Rattle.lists.proofs.Tests.{or_left, or_right}
 use Rattle.volume.specs.Directory.{entry_at, unused, contiguous, counted_as}
 use Rattle.volume.specs.Volume.{dir_at, dirs}
-use Rattle.volume.specs.Code.Located.{Located, entry_byte, EntryIn}
+use Rattle.volume.specs.Code.Located.{Located, entry_byte}
 use Rattle.volume.specs.declared.locate.Layout.{Layout}
 use Rattle.volume.proofs.EntriesMade.{made_to, made_length, made_later, made_next, made_none, made_all}
 use Rattle.volume.proofs.EntryCounted.{counted_other}
-use Rattle.records.specs.declared.record.Counted.TheVariants.{Whole, Broken}
+use Rattle.std.specs.Prelude.{Some, None}
 use Rattle.ownership.specs.Blocks.{sound3}
 use Rattle.ownership.specs.Owners.{all_owned}
 use Rattle.files.specs.Changes.{counted_in, brought_up}
@@ -28,21 +29,26 @@ use Rattle.files.proofs.Bounds.{records_short}
 use Rattle.files.proofs.counting.BroughtUp.{length-counted_in}
 use Rattle.files.proofs.map.OpenBlock.{Opens-at}
 
+-- what is refused is not done
+pub not_ok : {A B : Type 0} (r : Result A B) → is_err r ≡ true → is_ok r ≡ false
+not_ok (Ok x) e = absurd (true≢false (sym e))
+not_ok (Err y) e = refl
+
 -- what is found of one slot
 module _ (img e : List ℕ) where
-  pub counted_whole : (n : ℕ) → count_before img e ≡ Whole n → (file_before img e ≡ true) × (n ≡ records_before img e)
+  pub counted_whole : (n : ℕ) → count_before img e ≡ Some n → (file_before img e ≡ true) × (n ≡ records_before img e)
   unfolding count_before
   counted_whole n q = go (file_before img e) refl q
     where
-      go : (b : Bool) → file_before img e ≡ b → (if b then Whole (records_before img e) else Broken) ≡ Whole n → (file_before img e ≡ true) × (n ≡ records_before img e)
+      go : (b : Bool) → file_before img e ≡ b → (if b then Some (records_before img e) else None) ≡ Some n → (file_before img e ≡ true) × (n ≡ records_before img e)
       go true h r = (h, let z : records_before img e ≡ n = cc in sym z)
       go false h r = absurd (let z : ◌≡◌ {A = ℕ} 0 1 = cc in omega arith)
 
-  pub counted_broken : count_before img e ≡ Broken → file_before img e ≡ false
+  pub counted_broken : count_before img e ≡ None → file_before img e ≡ false
   unfolding count_before
   counted_broken q = go (file_before img e) refl q
     where
-      go : (b : Bool) → file_before img e ≡ b → (if b then Whole (records_before img e) else Broken) ≡ Broken → file_before img e ≡ false
+      go : (b : Bool) → file_before img e ≡ b → (if b then Some (records_before img e) else None) ≡ None → file_before img e ≡ false
       go true h r = absurd (let z : ◌≡◌ {A = ℕ} 0 1 = cc in omega arith)
       go false h r = h
 
@@ -81,13 +87,6 @@ module _ (v : List ℕ) (p : Layout) (l : Located v p) where
   module _ (k : ℕ) (h : k < 8 * p.dirs) where
     slot : k < 8 * dirs v
     slot = omega (arith, l.is_dirs)
-
-    pub up_in : (x : List ℕ) → x ≡ made_to (counted_in v) v k → EntryIn x p k
-    up_in x ex = rw ex (record {
-      places = omega (arith, l.dir_in, l.high);
-      slot = omega (arith, l.few_dirs);
-      inside = omega (arith, up_long k (omega arith), l.dir_in, l.long);
-    })
 
     pub up_next : (n : ℕ) (x z : List ℕ) → n ≡ records_before v (entry_at v k) → x ≡ made_to (counted_in v) v k
         → z ≡ put (entry_byte p k) (counted_as n (part (entry_byte p k) 32 x)) x → z ≡ made_to (counted_in v) v (k + 1)

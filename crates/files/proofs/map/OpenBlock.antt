@@ -48,6 +48,12 @@ module _ (img : List ℕ) (s : ℕ) (o : Opens img s) where
   unfolding stream_at
   length-stream_at = length-stream_in img (sectors_of (sector s img)) o.mapped (stream_length (sector s img)) o.ends
 
+  -- its sectors are as many as its stream fills
+  pub opened_whole : length (sectors_of (sector s img)) ≡ in_sectors (stream_length (sector s img))
+  opened_whole =
+      let f : List ℕ = sector s img in
+      length_sectors most_sectors f o.block_sound ∙ (block_facts most_sectors f o.block_sound).rounded
+
   module _ (n : ℕ) (m d : List ℕ) (en : n ≡ length (sectors_of (sector s img))) (em : m ≡ over (sectors_of (sector s img)) d) where
     pub loaded_few : n ≤ most_sectors
     loaded_few = omega (arith, length_sectors most_sectors (sector s img) o.block_sound, o.few)
@@ -58,15 +64,6 @@ module _ (img : List ℕ) (s : ℕ) (o : Opens img s) where
     module _ (e : ℕ) (ee : e ≡ stream_length (sector s img)) where
       pub loaded : Mapped img (take n m) × (e ≤ 256 * length (take n m))
       loaded = rw (loaded_map, ee) (o.mapped, o.ends)
-
-      pub loaded_whole : Mapped img (take n m) × (length (take n m) ≡ in_sectors e)
-      loaded_whole =
-          let f : List ℕ = sector s img in
-          rw (loaded_map, ee) (o.mapped, length_sectors most_sectors f o.block_sound ∙ (block_facts most_sectors f o.block_sound).rounded)
-
-      -- what was done with them was done with the file's
-      pub loaded_as : {A : Type 0} (f : List ℕ → ℕ → A) → f (take n m) e ≡ f (sectors_of (sector s img)) (stream_length (sector s img))
-      loaded_as f = rw (loaded_map, ee)
 
 -- inside a volume of t sectors is inside a larger one
 pub block_larger : (t u : ℕ) (f : List ℕ) → t ≤ u → block_sound t f ≡ true → block_sound u f ≡ true

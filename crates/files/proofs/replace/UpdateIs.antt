@@ -19,8 +19,9 @@ use Rattle.volume.specs.Directory.{entry_at, contiguous, start, record_length}
 use Rattle.volume.specs.declared.locate.Layout.{Layout}
 use Rattle.records.specs.Records.{records_of, allowed, stream_of}
 use Rattle.records.specs.Code.Walk.{head_of, place_of}
-use Rattle.records.specs.Code.Spots.{spot_of}
-use Rattle.records.specs.declared.record.Spot.TheVariants.{At, Past}
+use Rattle.records.specs.Code.Spots.{spot_of, extent_at}
+use Rattle.records.specs.declared.record.Extent.{Extent}
+use Rattle.std.specs.Prelude.{Some, None, Ok, Err}
 use Rattle.records.specs.Streams.{laid_out, laid}
 use Rattle.records.proofs.ChunkWritten.{put_front, relaid}
 use Rattle.records.proofs.RecordStreams.{records_allowed}
@@ -40,7 +41,7 @@ use Rattle.files.proofs.SequentialFile.{logical_is, logical-inside, logical-dist
 use Rattle.files.proofs.replace.RecordUpdated.{Updated-stream}
 use Rattle.files.proofs.map.OpenBlock.{stored_at_lem}
 use Rattle.files.proofs.slot.SlotInUse.{slot_in, used_Facts}
-use Rattle.files.specs.declared.replace.Replaced.TheVariants as replaced
+use Rattle.files.specs.declared.replace.ReplaceError.TheVariants.{PastEnd, OtherLength}
 
 -- what a spot says
 pub record Spotted (l : ℕ) (s : List ℕ) (i from n : ℕ) : Type 0 where
@@ -48,20 +49,23 @@ pub record Spotted (l : ℕ) (s : List ℕ) (i from n : ℕ) : Type 0 where
   pub place : from ≡ place_of l s i + head_of l
   pub long : n ≡ length (get_or (records_of l s) i [])
 
-pub spotted : (l : ℕ) (s : List ℕ) (i from n : ℕ) → spot_of l s i ≡ At from n → Spotted l s i from n
+pub spotted : (l : ℕ) (s : List ℕ) (i : ℕ) (q : Extent) → spot_of l s i ≡ Some q → Spotted l s i q.from q.len
 unfolding spot_of
-spotted l s i from n e = go (ltb i (length (records_of l s))) refl e
+spotted l s i q e = go (ltb i (length (records_of l s))) refl e
   where
-    go : (b : Bool) → ltb i (length (records_of l s)) ≡ b → (if b then At (place_of l s i + head_of l) (length (get_or (records_of l s) i [])) else Past) ≡ At from n
-        → Spotted l s i from n
-    go true h e = record { there = ltb-true _ _ h; place = (cc); long = (cc) }
+    go : (b : Bool) → ltb i (length (records_of l s)) ≡ b
+        → (if b then Some (extent_at l s i) else None) ≡ Some q → Spotted l s i q.from q.len
+    go true h e =
+        let is : extent_at l s i ≡ q = cc in
+        record { there = ltb-true _ _ h; place = sym (ap (λ (x : Extent). x.from) is); long = sym (ap (λ (x : Extent). x.len) is) }
     go false h e = absurd (let z : ◌≡◌ {A = ℕ} 0 1 = cc in omega arith)
 
-pub spotted_past : (l : ℕ) (s : List ℕ) (i : ℕ) → spot_of l s i ≡ Past → length (records_of l s) ≤ i
+pub spotted_past : (l : ℕ) (s : List ℕ) (i : ℕ) → spot_of l s i ≡ None → length (records_of l s) ≤ i
 unfolding spot_of
 spotted_past l s i e = go (ltb i (length (records_of l s))) refl e
   where
-    go : (b : Bool) → ltb i (length (records_of l s)) ≡ b → (if b then At (place_of l s i + head_of l) (length (get_or (records_of l s) i [])) else Past) ≡ Past
+    go : (b : Bool) → ltb i (length (records_of l s)) ≡ b
+        → (if b then Some (extent_at l s i) else None) ≡ None
         → length (records_of l s) ≤ i
     go true h e = absurd (let z : ◌≡◌ {A = ℕ} 0 1 = cc in omega arith)
     go false h e = ltb-false _ _ h
@@ -95,24 +99,24 @@ module _ (img : List ℕ) (p : Layout) (k : ℕ) (u : InUse img p k) (c : contig
   unfolding block
   used_distinct = ap distinct (sym (logical_is e u.used c img)) ∙ logical-distinct img F k hk u.used c
 
-  pub spot_past : (i : ℕ) → spot_of (record_length (entry_at img k)) (stream img (entry_at img k)) i ≡ Past → length (records img (entry_at img k)) ≤ i
+  pub spot_past : (i : ℕ) → spot_of (record_length (entry_at img k)) (stream img (entry_at img k)) i ≡ None → length (records img (entry_at img k)) ≤ i
   unfolding records
   spot_past i at = spotted_past l (stream img e) i at
 
-  module _ (bytes : Bytes img) (i from n : ℕ) (at : spot_of (record_length (entry_at img k)) (stream img (entry_at img k)) i ≡ At from n) where
-    g : Spotted l (stream img e) i from n
-    g = spotted l (stream img e) i from n at
+  module _ (bytes : Bytes img) (i : ℕ) (q : Extent) (at : spot_of (record_length (entry_at img k)) (stream img (entry_at img k)) i ≡ Some q) where
+    g : Spotted l (stream img e) i q.from q.len
+    g = spotted l (stream img e) i q at
 
     pub spot_there : i < length (records img (entry_at img k))
     unfolding records
     spot_there = g.there
 
-    pub spot_long : n ≡ length (record_at img (entry_at img k) i)
+    pub spot_long : q.len ≡ length (record_at img (entry_at img k) i)
     unfolding record_at records
     spot_long = g.long
 
     -- the data lies in the stream, and is the record
-    pub spot_fits : from + n ≤ stream_length (block img (entry_at img k))
+    pub spot_fits : q.from + q.len ≤ stream_length (block img (entry_at img k))
     spot_fits =
         omega (
           arith,
@@ -122,13 +126,13 @@ module _ (img : List ℕ) (p : Layout) (k : ℕ) (u : InUse img p k) (c : contig
           data_fits l (stream img e) (Bytes-stream img e bytes) (record_length_lem img F k hk u.used c) (stream_whole img F k hk u.used c) i g.there,
         )
 
-    pub spot_data : record_at img (entry_at img k) i ≡ part from n (stream img (entry_at img k))
+    pub spot_data : record_at img (entry_at img k) i ≡ part q.from q.len (stream img (entry_at img k))
     unfolding record_at records
     spot_data =
         record_at_lem l (stream img e) (Bytes-stream img e bytes) (record_length_lem img F k hk u.used c) (stream_whole img F k hk u.used c) i g.there
         ∙ rw (← g.place, ← g.long)
 
-    module _ (r : List ℕ) (long : length r ≡ n) where
+    module _ (r : List ℕ) (long : length r ≡ q.len) where
       same_long : length r ≡ length (record_at img e i)
       same_long = long ∙ spot_long
 
@@ -152,15 +156,15 @@ module _ (img : List ℕ) (p : Layout) (k : ℕ) (u : InUse img p k) (c : contig
       unfolding stream tail
       parts = sym (take-append-drop (stream_length (block img e)) (stored img e))
 
-      filled_is : filled (256 * length ss) t ≡ put from r (stored img e)
+      filled_is : filled (256 * length ss) t ≡ put q.from r (stored img e)
       unfolding ss
       filled_is =
-          let f : from + length r ≤ length (stream img e) = omega (arith, spot_fits, length-stream img F k hk u.used c) in
+          let f : q.from + length r ≤ length (stream img e) = omega (arith, spot_fits, length-stream img F k hk u.used c) in
           let m : 256 * length ss ≡ length (stream img e) + length (tail img e) = sym (length-stored img F k hk u.used c) ∙ ap length parts
           ∙ length-append (stream img e) (tail img e) in
-          rw (parts, now_is.at_data, ← g.place) (filled-put (256 * length ss) from r (stream img e) (tail img e) f (tail_zero img F k hk u.used c) m)
+          rw (parts, now_is.at_data, ← g.place) (filled-put (256 * length ss) q.from r (stream img e) (tail img e) f (tail_zero img F k hk u.used c) m)
 
-      pub put-updated : laid (sectors_of (sector (start (entry_at img k)) img)) (put from r (stored_at img (start (entry_at img k)))) img ≡ updated (entry_at img k) i r img
+      pub put-updated : laid (sectors_of (sector (start (entry_at img k)) img)) (put q.from r (stored_at img (start (entry_at img k)))) img ≡ updated (entry_at img k) i r img
       unfolding updated ss t block
       put-updated =
           let v : List ℕ = laid ss t img in
@@ -173,15 +177,15 @@ module _ (img : List ℕ) (p : Layout) (k : ℕ) (u : InUse img p k) (c : contig
 
 -- the outcomes of a replacement, with the image b that stays and the x that comes
 module _ (img e : List ℕ) (i n : ℕ) (b x : List ℕ) where
-  pub replaced_past : length (records img e) ≤ i → (replaced.Past ≡ replaced_of img e i n) × (b ≡ (if is_long img e i n then x else b))
+  pub replaced_past : length (records img e) ≤ i → (Err PastEnd ≡ replaced_of img e i n) × (b ≡ (if is_long img e i n then x else b))
   unfolding replaced_of is_long ◌and◌
   replaced_past h = rw (le-ltb i (length (records img e)) h) (refl, refl)
 
   module _ (there : i < length (records img e)) (m : ℕ) (long : m ≡ length (record_at img e i)) where
-    pub replaced_other : (n ≡ m → ⊥) → (replaced.Other ≡ replaced_of img e i n) × (b ≡ (if is_long img e i n then x else b))
+    pub replaced_other : (n ≡ m → ⊥) → (Err OtherLength ≡ replaced_of img e i n) × (b ≡ (if is_long img e i n then x else b))
     unfolding replaced_of is_long ◌and◌
     replaced_other h = rw (lt-ltb i (length (records img e)) there, ← long, ne_eqb n m h) (refl, refl)
 
-    pub replaced_done : n ≡ m → (replaced.Done ≡ replaced_of img e i n) × (x ≡ (if is_long img e i n then x else b))
+    pub replaced_done : n ≡ m → (Ok tt ≡ replaced_of img e i n) × (x ≡ (if is_long img e i n then x else b))
     unfolding replaced_of is_long ◌and◌
     replaced_done h = rw (lt-ltb i (length (records img e)) there, ← long, eq-eqb n m h) (refl, refl)

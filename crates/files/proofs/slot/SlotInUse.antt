@@ -12,10 +12,9 @@ use Rattle.lists.proofs.Tests.{or_cases, not_both}
 use Rattle.volume.specs.Volume.{dirs}
 use Rattle.volume.specs.Directory.{entry_at, unused, contiguous, start, size, record_length, record_count}
 use Rattle.volume.specs.declared.locate.Layout.{Layout}
-use Rattle.volume.proofs.Slots.{length_entry}
 use Rattle.records.specs.Records.{whole_records, records_of}
 use Rattle.records.specs.Code.Spots.{spot_of}
-use Rattle.records.specs.declared.record.Spot.TheVariants.{Past}
+use Rattle.std.specs.Prelude.{None}
 use Rattle.ownership.specs.Blocks.{placed}
 use Rattle.files.specs.Files.{stream, records, extent, count_is, counts_are, records_in}
 use Rattle.files.specs.Code.Opens.{Opens, stream_at}
@@ -38,9 +37,6 @@ module _ (img : List ℕ) (p : Layout) (k : ℕ) (u : InUse img p k) where
   pub used_Facts : Facts img
   used_Facts = facts img u.is_sound
 
-  pub used_length : length (entry_at img k) ≡ 32
-  used_length = length_entry img p u.located k u.slot
-
   module _ (c : contiguous (entry_at img k) ≡ false) where
     pub used_Opens : Opens img (start (entry_at img k))
     used_Opens = Opens-at img p u.located used_Facts.three used_Facts.none_twice k u.slot u.used c
@@ -60,7 +56,7 @@ module _ (img : List ℕ) (p : Layout) (k : ℕ) (u : InUse img p k) where
     used_count = count_right img used_Facts (records_in img) (counts_true img u.is_sound) k slot_in u.used c
 
     -- no record stands at or past it
-    pub past_spot : (i : ℕ) → record_count (entry_at img k) ≤ i → Past ≡ spot_of (record_length (entry_at img k)) (stream img (entry_at img k)) i
+    pub past_spot : (i : ℕ) → record_count (entry_at img k) ≤ i → None ≡ spot_of (record_length (entry_at img k)) (stream img (entry_at img k)) i
     unfolding spot_of records
     past_spot i h = let n = used_count in rw (le-ltb i (length (records_of (record_length (entry_at img k)) (stream img (entry_at img k)))) (omega arith))
 

@@ -1,5 +1,6 @@
 -- An access block extended by sectors, one after the other: its pairs, how many they are, and the sector that would follow.
-use Rattle.std.specs.Prelude.{if◌then◌else◌}
+use Rattle.std.specs.Prelude.{if◌then◌else◌, Some}
+use Rattle.std.specs.Option.{option_eq}
 use mathlib.Core.Path.{◌≡◌, refl, ap, ◌∙◌, sym}
 use mathlib.Core.List.{List, [], ◌∷◌, ◌++◌}
 use mathlib.Core.Bool.{true, Bool, false}
@@ -7,9 +8,9 @@ use Prim.Native.Nat.{ℕ, ◌+◌, ◌<◌, ◌≤◌}
 use native.Mathlib.Numerals.{add-one}
 use native.Mathlib.Omega.{arith}
 use lib.ListN.{take, length, get_or, drop, take-append-drop, length-append}
-use lib.Seq.{take-suc, take-length}
+use lib.Seq.{take-suc}
 use lib.Dec.{eqb, ltb}
-use borrow.Author.Tests.{ne_eqb, eqb-true, ltb-true}
+use borrow.Author.Tests.{eqb-true, ltb-true}
 use Rattle.numbers.specs.Numbers.{most_sectors}
 use Rattle.lists.proofs.Lists.{all_at}
 use Rattle.lists.proofs.AreBytes.{Bytes}
@@ -37,43 +38,45 @@ extended_by_fewer ps ss k =
     rw e (length-extended_by (extended_by ps (take k ss)) (drop k ss)).0
 
 -- a sector follows the last segment if it is the one after it
-pub follows_next : (ps : List (List ℕ)) (s : ℕ) → s < 65536 → follows ps s ≡ eqb (next_after ps) s
+follows_next : (ps : List (List ℕ)) (s : ℕ) → follows ps s ≡ option_eq eqb (next_after ps) (Some s)
 unfolding follows next_after
-follows_next [] s h = sym (ne_eqb 65536 s (λ q. omega arith))
-follows_next (p ∷ []) s h = refl
-follows_next (p ∷ q ∷ ps) s h = follows_next (q ∷ ps) s h
+follows_next [] s = refl
+follows_next (p ∷ []) s = refl
+follows_next (p ∷ q ∷ ps) s = follows_next (q ∷ ps) s
 
-next_lengthened : (ps : List (List ℕ)) (s : ℕ) → follows ps s ≡ true → next_after (lengthened ps 1) ≡ s + 1
+next_lengthened : (ps : List (List ℕ)) (s : ℕ) → follows ps s ≡ true → next_after (lengthened ps 1) ≡ Some (s + 1)
 unfolding follows lengthened next_after
 next_lengthened [] s h = absurd (let z : ◌≡◌ {A = ℕ} 0 1 = cc in omega arith)
 next_lengthened (p ∷ []) s h =
     let q : seg_start p + seg_length p ≡ s = eqb-true _ _ h in
-    omega (arith, seg_start-pair (seg_start p) (seg_length p + 1), seg_length-pair (seg_start p) (seg_length p + 1))
+    let z : seg_start (pair (seg_start p) (seg_length p + 1)) + seg_length (pair (seg_start p) (seg_length p + 1)) ≡ s + 1 =
+    omega (arith, seg_start-pair (seg_start p) (seg_length p + 1), seg_length-pair (seg_start p) (seg_length p + 1)) in
+    ap Some z
 next_lengthened (p ∷ q ∷ []) s h = next_lengthened (q ∷ []) s h
 next_lengthened (p ∷ q ∷ r ∷ ps) s h = next_lengthened (q ∷ r ∷ ps) s h
 
-next_snoc : (ps : List (List ℕ)) (s : ℕ) → next_after (ps ++ (pair s 1 ∷ [])) ≡ s + 1
+next_snoc : (ps : List (List ℕ)) (s : ℕ) → next_after (ps ++ (pair s 1 ∷ [])) ≡ Some (s + 1)
 unfolding next_after
-next_snoc [] s = omega (arith, seg_start-pair s 1, seg_length-pair s 1)
+next_snoc [] s = let z : seg_start (pair s 1) + seg_length (pair s 1) ≡ s + 1 = omega (arith, seg_start-pair s 1, seg_length-pair s 1) in ap Some z
 next_snoc (p ∷ []) s = next_snoc [] s
 next_snoc (p ∷ q ∷ ps) s = next_snoc (q ∷ ps) s
 
-pub next_extended : (ps : List (List ℕ)) (s : ℕ) → next_after (extended ps s) ≡ s + 1
-next_extended ps s = extended_cases (λ qs. next_after qs ≡ s + 1) ps s (next_lengthened ps s) (λ h. next_snoc ps s)
+pub next_extended : (ps : List (List ℕ)) (s : ℕ) → next_after (extended ps s) ≡ Some (s + 1)
+next_extended ps s = extended_cases (λ qs. next_after qs ≡ Some (s + 1)) ps s (next_lengthened ps s) (λ h. next_snoc ps s)
 
-pub next_last : (ps : List (List ℕ)) → 1 ≤ length ps → next_after ps ≡ seg_start (last_pair ps) + seg_length (last_pair ps)
+pub next_last : (ps : List (List ℕ)) → 1 ≤ length ps → next_after ps ≡ Some (seg_start (last_pair ps) + seg_length (last_pair ps))
 unfolding next_after
 next_last [] h = absurd (omega arith)
 next_last (p ∷ []) h = refl
 next_last (p ∷ q ∷ ps) h = rw (last_pair-cons p (q ∷ ps) (omega arith)) (next_last (q ∷ ps) (omega arith))
 
 -- how many segments then
-pub length_by_next : (ps : List (List ℕ)) (s : ℕ) → s < 65536 → length (extended ps s) ≡ (if eqb (next_after ps) s then length ps else length ps + 1)
-length_by_next ps s h = go (follows ps s) refl
+pub length_by_next : (ps : List (List ℕ)) (s : ℕ) → length (extended ps s) ≡ (if option_eq eqb (next_after ps) (Some s) then length ps else length ps + 1)
+length_by_next ps s = go (follows ps s) refl
   where
-    go : (b : Bool) → follows ps s ≡ b → length (extended ps s) ≡ (if eqb (next_after ps) s then length ps else length ps + 1)
-    go true e = rw (← follows_next ps s h, e) (ap length (extended_on ps s e) ∙ length-lengthened ps 1)
-    go false e = rw (← follows_next ps s h, e) (ap length (extended_new ps s e) ∙ length-append ps (pair s 1 ∷ []))
+    go : (b : Bool) → follows ps s ≡ b → length (extended ps s) ≡ (if option_eq eqb (next_after ps) (Some s) then length ps else length ps + 1)
+    go true e = rw (← follows_next ps s, e) (ap length (extended_on ps s e) ∙ length-lengthened ps 1)
+    go false e = rw (← follows_next ps s, e) (ap length (extended_new ps s e) ∙ length-append ps (pair s 1 ∷ []))
 
 -- the block on the way
 module _ (f ss : List ℕ) (g : Grows f ss) where
@@ -110,7 +113,3 @@ module _ (f ss : List ℕ) (g : Grows f ss) where
         let n : total x ≡ total f = ap (λ (l : List ℕ). total l) e ∙ total-block_of (ahead k) (total f) (stream_length f) in
         let m : stream_length x ≡ stream_length f = ap (λ (l : List ℕ). stream_length l) e ∙ stream_length-block_of (ahead k) (total f) (stream_length f) in
         q ∙ rw (pairs_now, n, m, ← extended_by_more (pairs f) ss k h)
-
-  pub grown_done : (k : ℕ) (x : List ℕ) → k ≡ length ss → x ≡ block_of (extended_by (pairs f) (take k ss)) (total f) (stream_length f)
-      → x ≡ block_of (extended_by (pairs f) ss) (total f) (stream_length f)
-  grown_done k x h e = e ∙ ap (λ (l : List ℕ). block_of (extended_by (pairs f) l) (total f) (stream_length f)) (ap (λ (i : ℕ). take i ss) h ∙ take-length ss)

@@ -1,19 +1,21 @@
 -- Turns of the loops over the sectors that a file takes.
-use Rattle.std.specs.Prelude.{if◌then◌else◌}
-use mathlib.Core.Path.{◌≡◌, refl, ap, sym, ◌∙◌}
+use Rattle.std.specs.Prelude.{if◌then◌else◌, Option, Some, None}
+use Rattle.std.specs.Option.{option_eq}
+use Rattle.std.specs.List.{slice_get}
+use Rattle.std.proofs.lemmas.Option.{slice_get-get_or, get_or_from_slice_get}
+use mathlib.Core.Path.{◌≡◌, refl, sym, ◌∙◌}
+use mathlib.Core.Bool.{Bool, true, false, not, true≢false}
 use mathlib.Core.List.{List, [], ◌∷◌}
 use Prim.Native.Nat.{ℕ, ◌+◌, ◌*◌, ◌≤◌, ◌<◌, ◌-◌, zero, suc}
 use native.Mathlib.Numerals.{add-one}
 use native.Mathlib.Omega.{arith}
 use lib.ListN.{length, get_or, drop, drop_of_length-le, take}
-use lib.Seq.{drop-cons, take-length}
+use lib.Seq.{drop-cons}
 use lib.Dec.{eqb}
 use Rattle.lists.specs.Parts.{put, put_sector, blanks, filled}
 use Rattle.volume.specs.Sat.{with_bit, with_bits}
 use Rattle.records.specs.Streams.{laid}
-use Rattle.ownership.specs.Blocks.{pairs, segments, seg_start, seg_length, extended_by}
-use Rattle.ownership.specs.Code.Shapes.{BlockShaped, pair_at}
-use Rattle.ownership.proofs.AccessBlocks.{length-pairs}
+use Rattle.ownership.specs.Blocks.{seg_start, seg_length, extended_by}
 use Rattle.ownership.proofs.Segments.{length-extended_by}
 use Rattle.files.specs.Code.Growing.{next_after}
 use Rattle.files.proofs.taking.ExtendedBy.{next_last, extended_by_more, extended_by_none, length_by_next, next_extended}
@@ -37,36 +39,40 @@ module _ (ss : List ℕ) (k : ℕ) where
   unfolding laid
   zeroed_done b h = rw (drop_of_length-le ss h)
 
--- the sector after the last segment, read from the block
-module _ (f : List ℕ) (sh : BlockShaped f) where
-  none : (ps : List (List ℕ)) → length ps ≡ 0 → 65536 ≡ next_after ps
-  unfolding next_after
-  none [] h = refl
-  none (p ∷ ps) h = absurd (omega arith)
+-- the sector after the last segment, by the last pair
+pub next_none : (ps : List (List ℕ)) → None ≡ slice_get ps (length ps - 1) → None ≡ next_after ps
+unfolding next_after
+next_none [] h = refl
+next_none (p ∷ ps) h =
+    let q = slice_get-get_or (p ∷ ps) (length (p ∷ ps) - 1) p (omega arith) in
+    absurd (let z : ◌≡◌ {A = ℕ} 0 1 = cc in omega arith)
 
-  pub next_none : (n : ℕ) → n ≡ segments f → n ≡ 0 → 65536 ≡ next_after (pairs f)
-  next_none n e z = none (pairs f) (length-pairs f sh ∙ sym e ∙ z)
+pub next_some : (ps : List (List ℕ)) (x : List ℕ) (a b : ℕ) → Some x ≡ slice_get ps (length ps - 1) → a ≡ seg_start x → b ≡ seg_length x → Some (a + b) ≡ next_after ps
+next_some [] x a b h ea eb = absurd (let z : ◌≡◌ {A = ℕ} 0 1 = cc in omega arith)
+next_some (p ∷ ps) x a b h ea eb =
+    let g : get_or (p ∷ ps) (length (p ∷ ps) - 1) [] ≡ x = get_or_from_slice_get (p ∷ ps) (length (p ∷ ps) - 1) x [] (sym h) in
+    sym (next_last (p ∷ ps) (omega arith) ∙ rw (g, ea, eb))
 
-  pub next_read : (n a b : ℕ) → n ≡ segments f → (n ≡ 0 → ⊥) → a ≡ seg_start (pair_at f (n - 1)) → b ≡ seg_length (pair_at f (n - 1))
-      → a + b ≡ next_after (pairs f)
-  next_read n a b e nz ea eb =
-      let l = length-pairs f sh in
-      let i : length (pairs f) - 1 ≡ n - 1 = omega arith in
-      sym (next_last (pairs f) (omega arith)
-      ∙ ap (λ (j : ℕ). seg_start (get_or (pairs f) j []) + seg_length (get_or (pairs f) j [])) i
-      ∙ rw (ea, eb))
+-- a segment more, or none, by the test whether the next sector differs
+pub counted_one : (t b : Bool) (n m : ℕ) → b ≡ not t → b ≡ true → m ≡ n + 1 → m ≡ (if t then n else n + 1)
+counted_one true b n m h e q = absurd (true≢false (sym e ∙ h))
+counted_one false b n m h e q = q
+
+pub counted_none : (t b : Bool) (n m : ℕ) → b ≡ not t → b ≡ false → m ≡ n → m ≡ (if t then n else n + 1)
+counted_none true b n m h e q = q
+counted_none false b n m h e q = absurd (true≢false (sym h ∙ e))
 
 -- segments counted without a write: n of them, and the next sector, after k sectors more
-pub record Counted (ps : List (List ℕ)) (ss : List ℕ) (k n next : ℕ) : Type 0 where
+pub record Counted (ps : List (List ℕ)) (ss : List ℕ) (k n : ℕ) (next : Option ℕ) : Type 0 where
   pub some : k ≤ length ss
   pub many : n ≡ length (extended_by ps (take k ss))
   pub after : next ≡ next_after (extended_by ps (take k ss))
 
 module _ (ps : List (List ℕ)) (ss : List ℕ) where
-  pub Counted-none : (n next : ℕ) → n ≡ length ps → next ≡ next_after ps → Counted ps ss 0 n next
+  pub Counted-none : (n : ℕ) (next : Option ℕ) → n ≡ length ps → next ≡ next_after ps → Counted ps ss 0 n next
   Counted-none n next e f = record { some = omega arith; many = rw (extended_by_none ps ss) e; after = rw (extended_by_none ps ss) f }
 
-  pub Counted-few : (k n next : ℕ) → Counted ps ss k n next → n ≤ length ps + length ss
+  pub Counted-few : (k n : ℕ) (next : Option ℕ) → Counted ps ss k n next → n ≤ length ps + length ss
   Counted-few k n next c = omega (arith, c.many, (length-extended_by ps (take k ss)).1, length-take-most k ss)
     where
       length-take-most : (i : ℕ) (l : List ℕ) → length (take i l) ≤ length l
@@ -74,15 +80,10 @@ module _ (ps : List (List ℕ)) (ss : List ℕ) where
       length-take-most (suc i) [] = omega arith
       length-take-most (suc i) (x ∷ l) = omega (arith, length-take-most i l)
 
-  pub Counted-more : (k n next s m : ℕ) → Counted ps ss k n next → k < length ss → s ≡ get_or ss k 0 → s < 65536 → m ≡ (if eqb next s then n else n + 1)
-      → Counted ps ss (k + 1) m (s + 1)
-  Counted-more k n next s m c h es low em = record {
+  pub Counted-more : (k n : ℕ) (next : Option ℕ) (s m : ℕ) → Counted ps ss k n next → k < length ss → s ≡ get_or ss k 0 → m ≡ (if option_eq eqb next (Some s) then n else n + 1)
+      → Counted ps ss (k + 1) m (Some (s + 1))
+  Counted-more k n next s m c h es em = record {
     some = omega arith;
-    many = em ∙ rw (extended_by_more ps ss k h, ← es, length_by_next (extended_by ps (take k ss)) s low, c.many, c.after);
+    many = em ∙ rw (extended_by_more ps ss k h, ← es, length_by_next (extended_by ps (take k ss)) s, c.many, c.after);
     after = rw (extended_by_more ps ss k h, ← es) (sym (next_extended (extended_by ps (take k ss)) s));
   }
-
-  pub Counted-all : (k n next : ℕ) → length ss ≤ k → Counted ps ss k n next → n ≡ length (extended_by ps ss)
-  Counted-all k n next h c =
-      let e : k ≡ length ss = omega (arith, c.some) in
-      c.many ∙ ap (λ (l : List ℕ). length (extended_by ps l)) (ap (λ (i : ℕ). take i ss) e ∙ take-length ss)

@@ -1,5 +1,5 @@
 -- What an append asks: a sequential file of a sound volume, and room for the record.
-use Rattle.std.specs.Prelude.{List, [], ◌∷◌, ◌≡◌, true, false, ℕ, ◌+◌, ◌≤◌, ◌*◌, ◌<◌, length, ltb, eqb}
+use Rattle.std.specs.Prelude.{Option, Some, None, List, [], ◌∷◌, ◌≡◌, true, false, ℕ, ◌+◌, ◌≤◌, ◌*◌, ◌<◌, length, ltb, eqb}
 use Rattle.numbers.specs.Numbers.{most_segments, most_sectors}
 use Rattle.lists.specs.Lists.{all, distinct}
 use Rattle.lists.specs.Parts.{sector, put_sector, in_sectors, sectors}
@@ -15,10 +15,10 @@ use Rattle.files.specs.Code.Opens.{Opens}
 use Rattle.files.specs.Code.Slots.{InUse}
 use Rattle.files.specs.Changes.{needed, new_pairs}
 
--- the sector after the last segment; past every number of a sector where there is no segment
-unfoldable pub next_after : List (List ℕ) → ℕ
-next_after [] = 65536
-next_after (p ∷ []) = seg_start p + seg_length p
+-- the sector after the last segment, if there is one
+unfoldable pub next_after : List (List ℕ) → Option ℕ
+next_after [] = None
+next_after (p ∷ []) = Some (seg_start p + seg_length p)
 next_after (p ∷ q ∷ ps) = next_after (q ∷ ps)
 
 -- a well-formed access block that these sectors can join

@@ -5,8 +5,8 @@ use Rattle.front.specs.declared.areas.Span.{Span}
 use Rattle.work.specs.declared.Refusal.TheVariants.{NotSound, BadRequest, BadLength}
 use Rattle.work.specs.Refusals.{◌if◌, ruled}
 use Rattle.deskbytes.specs.DeskBytes.{desk_form}
-use Rattle.desk.specs.declared.Answer.{Answer}
-use Rattle.desk.specs.declared.Answer.TheVariants.{Refused}
+use Rattle.desk.specs.Answers.{Answer}
+use Rattle.std.specs.Prelude.{Err}
 use Rattle.desk.specs.declared.Reply.{Reply}
 use Rattle.desk.specs.Desk.{state}
 use Rattle.desk.specs.Answers.{Outcome}
@@ -49,7 +49,7 @@ passed_by o a bs t s = passed o.answer o.image (desk_after o.answer o.desk bs) (
 -- of a transfer: the area's rule, then the call
 unfoldable pub transfer_left : ℕ → List ℕ → List ℕ → List ℕ → List ℕ → List ℕ → Passed
 transfer_left caller b img bs t s =
-    ruled (BadLength if not (inside (start_in b) (end_in b) t s) ∷ []) (λ why. passed (Refused why) img bs t s)
+    ruled (BadLength if not (inside (start_in b) (end_in b) t s) ∷ []) (λ why. passed (Err why) img bs t s)
     (passed_by (step (transfer_asked caller b (part_named (start_in b) (end_in b) t s)) (state img (unpacked_desk bs))) (start_in b) bs t s)
 
 unfoldable pub rewind_left : ℕ → List ℕ → List ℕ → List ℕ → List ℕ → List ℕ → Passed
@@ -59,7 +59,7 @@ rewind_left caller b img bs t s =
 -- of a block of 28 bytes: all rules but the first
 unfoldable pub request_left : ℕ → List ℕ → List ℕ → List ℕ → List ℕ → List ℕ → Passed
 request_left caller b img bs t s =
-    ruled (NotSound if not (desk_form bs) ∷ BadRequest if not (supported b) ∷ []) (λ why. passed (Refused why) img bs t s)
+    ruled (NotSound if not (desk_form bs) ∷ BadRequest if not (supported b) ∷ []) (λ why. passed (Err why) img bs t s)
     (if is_transfer b then transfer_left caller b img bs t s else rewind_left caller b img bs t s)
 
 unfoldable pub passed_open : Unit {0}

@@ -1,7 +1,7 @@
 -- The steps of a move as the code goes them are the move.
 use mathlib.Core.Path.{◌≡◌, ap, sym, ◌∙◌}
 use mathlib.Core.Bool.{Bool, true, true≢false}
-use mathlib.Core.List.{List, [], ◌∷◌}
+use mathlib.Core.List.{List, []}
 use mathlib.Core.Logic.{◌≢◌}
 use Prim.Native.Nat.{ℕ, ◌+◌, ◌*◌, ◌<◌, ◌≤◌}
 use native.Mathlib.Omega.{arith}
@@ -17,9 +17,8 @@ use Rattle.lists.proofs.Keeps.{among-append_left}
 use Rattle.lists.proofs.Puts.{sector_other}
 use Rattle.volume.specs.Volume.{sat_at, sat, system, dirs}
 use Rattle.volume.specs.Directory.{entry_at, start}
-use Rattle.volume.specs.Sat.{with_bit, with_bits, put_sat}
+use Rattle.volume.specs.Sat.{with_bit, put_sat}
 use Rattle.volume.specs.declared.locate.Layout.{Layout}
-use Rattle.volume.proofs.BitsSet.{length-with_bits}
 use Rattle.ownership.specs.Blocks.{block, total, stream_length, sectors_of, block_sound, extended_by, block_of}
 use Rattle.ownership.specs.Owners.{logical, all_owned}
 use Rattle.files.proofs.SoundFacts.{Facts}
@@ -30,12 +29,8 @@ use Rattle.files.proofs.slot.SlotInUse.{slot_in, used_Facts, used_Opens}
 use Rattle.moves.specs.Moves.{sector_of, rerouted, rerouted_pairs, relocated}
 use Rattle.moves.specs.Code.Shapes.{Movable, Writes, moved_with}
 
-pub length_swapped : (b : List ℕ) (from to : ℕ) → length (with_bit 0 (with_bit 1 b to) from) ≡ length b
-unfolding with_bits
-length_swapped b from to = length-with_bits 0 (with_bit 1 b to) (from ∷ []) ∙ length-with_bits 1 b (to ∷ [])
-
 -- the data are written first, and the table is still as it was
-pub wrote_move : (img b : List ℕ) (sat s from to : ℕ) → Writes img sat s from to b → (x y z : List ℕ) → x ≡ put_sector to (sector from img) img
+pub wrote_move : (img b : List ℕ) (sat s from to : ℕ) → Writes img sat s from to → (x y z : List ℕ) → x ≡ put_sector to (sector from img) img
     → y ≡ put_sector sat (with_bit 0 (with_bit 1 (sector sat x) to) from) x → z ≡ put_sector s b y → z ≡ moved_with sat s from to b img
 unfolding moved_with
 wrote_move img b sat s from to w x y z ex ey ez =
@@ -63,10 +58,10 @@ module _ (v : List ℕ) (p : Layout) (k i from to : ℕ) (M : Movable v p k i fr
     unfolding block
     is = ef ∙ ap (λ (x : ℕ). sector x v) es
 
-    pub block_asks : (length f ≡ 256) × (block_sound most_sectors f ≡ true) × (to < most_sectors)
+    pub block_asks : (block_sound most_sectors f ≡ true) × (to < most_sectors)
     unfolding block
     block_asks =
-        rw is (length-sector (start e) v block_in, (used_Opens v p k M.file M.sequential).block_sound, omega (arith, M.inside, F.high))
+        rw is ((used_Opens v p k M.file M.sequential).block_sound, omega (arith, M.inside, F.high))
 
     pairs_are : extended_by [] (set (sectors_of f) i to) ≡ rerouted_pairs v (entry_at v k) i to
     unfolding rerouted_pairs rerouted
@@ -93,8 +88,8 @@ module _ (v : List ℕ) (p : Layout) (k i from to : ℕ) (M : Movable v p k i fr
   unfolding all_owned
   not_sat h = true≢false (sym (in_sat v) ∙ ap (λ (u : ℕ). among u (system v)) (sym h) ∙ among-append_left to (system v) _ (free_unowned v F to M.inside M.is_free))
 
-  pub moves_sectors : (s : ℕ) (b : List ℕ) → s ≡ start (entry_at v k) → length b ≡ 256 → Writes v p.sat s from to b
-  moves_sectors s b h n = record {
+  pub moves_sectors : (s : ℕ) → s ≡ start (entry_at v k) → Writes v p.sat s from to
+  moves_sectors s h = record {
     whole = F.long;
     high = F.high;
     table = omega (arith, M.file.located.is_sat, F.sat_in);
@@ -102,5 +97,4 @@ module _ (v : List ℕ) (p : Layout) (k i from to : ℕ) (M : Movable v p k i fr
     old = from_in;
     new = M.inside;
     two = λ q. not_sat (q ∙ M.file.located.is_sat);
-    long = n;
   }

@@ -1,6 +1,7 @@
 -- An access block made from nothing: zeros, then the totals, then the sectors.
+use Rattle.std.specs.Prelude.{Result, Ok, Err, is_ok, OnOk}
 use mathlib.Core.Path.{◌≡◌, refl, ap, ◌∙◌}
-use mathlib.Core.Bool.{Bool, true}
+use mathlib.Core.Bool.{true}
 use mathlib.Core.List.{List, []}
 use Prim.Native.Nat.{ℕ}
 use native.Mathlib.Omega.{arith}
@@ -29,6 +30,10 @@ zeros_shaped g h = rw (h, zeros_block) (shaped_block_of [] 0 0 four_none (omega 
 pub zeros_with : (g x : List ℕ) (n e : ℕ) → g ≡ blanks 256 → x ≡ block_of (pairs g) n e → x ≡ block_of [] n e
 zeros_with g x n e h q = q ∙ ap (λ (ps : List (List ℕ)). block_of ps n e) (ap pairs (h ∙ zeros_block) ∙ pairs-block_of [] 0 0 four_none)
 
+on_ok : {E P : Type 0} (r : Result Unit E) → (is_ok r ≡ true → P) → OnOk r P
+on_ok (Ok u) f = f refl
+on_ok (Err e) f = tt
+
 module _ (x : List ℕ) (n e : ℕ) (h : x ≡ block_of [] n e) where
   no_pairs : pairs x ≡ []
   no_pairs = ap pairs h ∙ pairs-block_of [] n e four_none
@@ -41,9 +46,9 @@ module _ (x : List ℕ) (n e : ℕ) (h : x ≡ block_of [] n e) where
   }
 
   -- what then joins it is all that it has
-  pub joined_none : (ss : List ℕ) (r : Bool) (y : List ℕ) → Extended x ss r y
-      → (r ≡ leb (length (extended_by [] ss)) most_segments) × (r ≡ true → y ≡ block_of (extended_by [] ss) n e)
+  pub joined_none : {E : Type 0} (ss : List ℕ) (r : Result Unit E) (y : List ℕ) → Extended x ss (is_ok r) y
+      → (is_ok r ≡ leb (length (extended_by [] ss)) most_segments) × OnOk r (y ≡ block_of (extended_by [] ss) n e)
   joined_none ss r y a =
       let t : total x ≡ n = ap (λ (l : List ℕ). total l) h ∙ total-block_of [] n e in
       let s : stream_length x ≡ e = ap (λ (l : List ℕ). stream_length l) h ∙ stream_length-block_of [] n e in
-      (rw no_pairs at a.answer, (λ k. rw (no_pairs, t, s) at (a.made k)))
+      (rw no_pairs at a.answer, on_ok r (λ k. rw (no_pairs, t, s) at (a.made k)))

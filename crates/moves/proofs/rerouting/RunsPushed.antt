@@ -1,7 +1,7 @@
 -- The segments of an access block pushed into another one, one of their sectors replaced: what a push asks for, and what is told after it.
-use Rattle.std.specs.Prelude.{if◌then◌else◌}
+use Rattle.std.specs.Prelude.{if◌then◌else◌, Result, Ok, Err, is_ok}
 use mathlib.Core.Path.{◌≡◌, ap, ◌∙◌}
-use mathlib.Core.Bool.{Bool, true, false, not}
+use mathlib.Core.Bool.{Bool, true, false}
 use mathlib.Core.List.{List, ◌∷◌, ◌++◌}
 use Prim.Native.Nat.{ℕ, zero, suc, ◌+◌, ◌-◌, ◌≤◌, ◌<◌}
 use native.Mathlib.Decide.{dec_lt}
@@ -9,7 +9,7 @@ use native.Mathlib.Omega.{arith}
 use lib.ListN.{length, set, drop}
 use lib.Dec.{ltb}
 use lib.Seq.{set-append_left, set_out}
-use borrow.Author.Tests.{lt-ltb, le-ltb, not-true, not-false}
+use borrow.Author.Tests.{lt-ltb, le-ltb}
 use Rattle.numbers.specs.Numbers.{most_sectors}
 use Rattle.lists.specs.Lists.{range, all, flat}
 use Rattle.lists.proofs.JoinedLists.{all-set}
@@ -59,11 +59,11 @@ module _ (g : List ℕ) (t : TakesRuns g) where
   }
 
 -- by the answer that a push gave
-pub failed : {g ss h : List ℕ} {r : Bool} → not r ≡ true → Extended g ss r h → Extended g ss false h
-failed {r = r} t x = rw (not-true r t) at x
+pub failed : {E : Type 0} {g ss h : List ℕ} {r : Result Unit E} {e : E} → r ≡ Err e → Extended g ss (is_ok r) h → Extended g ss false h
+failed t x = rw t at x
 
-pub passed : {g ss h : List ℕ} {r : Bool} → not r ≡ false → Extended g ss r h → Extended g ss true h
-passed {r = r} t x = rw (not-false r t) at x
+pub passed : {E : Type 0} {g ss h : List ℕ} {r : Result Unit E} {u : Unit} → r ≡ Ok u → Extended g ss (is_ok r) h → Extended g ss true h
+passed t x = rw t at x
 
 -- the three runs of a segment with one sector replaced, which may fail at each
 module _ (g : List ℕ) (sh : BlockShaped g) (s n j q : ℕ) (h : j < n) where

@@ -24,7 +24,6 @@ pub record TakesRuns (g : List ℕ) : Type 0 where
 
 -- a sound access block f, any of whose sectors can be q, and a block g to make that in
 pub record Reroutes (f : List ℕ) (q : ℕ) (g : List ℕ) : Type 0 where
-  pub whole : length f ≡ 256
   pub block_sound : block_sound most_sectors f ≡ true
   pub below : q < most_sectors
   pub takes : TakesRuns g
@@ -46,7 +45,7 @@ moved_with sat s from to b img =
     (put_sector to (sector from img) img))
 
 -- these are sectors of an image, and the one that is written first is not the table
-pub record Writes (img : List ℕ) (sat s from to : ℕ) (b : List ℕ) : Type 0 where
+pub record Writes (img : List ℕ) (sat s from to : ℕ) : Type 0 where
   pub whole : length img ≡ 256 * sectors img
   pub high : sectors img ≤ most_sectors
   pub table : sat < sectors img
@@ -54,4 +53,3 @@ pub record Writes (img : List ℕ) (sat s from to : ℕ) (b : List ℕ) : Type 0
   pub old : from < sectors img
   pub new : to < sectors img
   pub two : to ≢ sat
-  pub long : length b ≡ 256

@@ -36,7 +36,7 @@ use Rattle.work.proofs.Rules.{Passes}
 use Rattle.desk.specs.Desk.{State, state}
 use Rattle.desk.specs.Answers.{Outcome, accepts}
 use Rattle.desk.specs.Calls.{bring_up, record_counts, rules, done, quietly, step}
-use Rattle.desk.specs.declared.Answer.TheVariants.{Refused}
+use Rattle.std.specs.Prelude.{Err}
 use Rattle.promises.specs.Answers.{First}
 use Rattle.promises.specs.BroughtUp.{BringUpExactly, BroughtUp, AcceptedBringUp, SoundAlready}
 use Rattle.promises.specs.Contents.{SameFrame}
@@ -58,14 +58,14 @@ old_is_Accepted s b =
     let p : Passes (rules bring_up s) = (ap not b, tt) in
     record { passes = p; is = step-Passes bring_up s p }
 
-other_is_refused : (s : State) → sound_before s.image ≡ false → (step bring_up s).answer ≡ Refused NotSound
+other_is_refused : (s : State) → sound_before s.image ≡ false → (step bring_up s).answer ≡ Err NotSound
 unfolding rules bring_up_rules
 other_is_refused s b =
     let f : First (rules bring_up s) 0 NotSound =
     record { inside = omega arith; is_rule = refl; applies = ap not b; none_earlier = λ j l. absurd (omega arith) } in
     ap (λ (o : Outcome). o.answer) (step-First bring_up s 0 NotSound f)
 
-refused-accepts_not : accepts (Refused NotSound) ≡ false
+refused-accepts_not : accepts (Err NotSound) ≡ false
 unfolding accepts
 refused-accepts_not = refl
 
@@ -75,7 +75,7 @@ bring_up_exactly s = record {
   others_refused = (λ r. refused (sound_before s.image) refl r, other_is_refused s);
 }
   where
-    refused : (b : Bool) → sound_before s.image ≡ b → (step bring_up s).answer ≡ Refused NotSound → sound_before s.image ≡ false
+    refused : (b : Bool) → sound_before s.image ≡ b → (step bring_up s).answer ≡ Err NotSound → sound_before s.image ≡ false
     refused true q r = absurd (true≢false (sym (accepts_it bring_up s (old_is_Accepted s q)) ∙ ap accepts r ∙ refused-accepts_not))
     refused false q r = q
 

@@ -18,7 +18,7 @@ use Rattle.compaction.specs.declared.Ending.TheVariants.{Settled}
 use Rattle.compaction.proofs.ClosedUp.{closed_files}
 use Rattle.compaction.proofs.Quota.{compacted_again, compacted-add, compacted_most, compacted-settled, compacted_quota, compacted_segment, compacted_steps}
 use Rattle.work.proofs.Rules.{Passes}
-use Rattle.desk.specs.declared.Answer.TheVariants.{Done}
+use Rattle.std.specs.Prelude.{Ok}
 use Rattle.desk.specs.declared.Report.TheVariants.{Compacted}
 use Rattle.desk.specs.Desk.{State, state, ready}
 use Rattle.desk.specs.Answers.{Outcome, outcome, accepts}
@@ -114,13 +114,13 @@ module _ (s : State) (quota : ℕ) (a : Accepted (compact quota) s) where
   abbrev v' : List ℕ
   v' = (compacted quota s.image).image
 
-  settled_so : (n : ℕ) → (step (compact quota) s).answer ≡ Done (Compacted n Settled) → (compacted quota s.image).ending ≡ Settled
+  settled_so : (n : ℕ) → (step (compact quota) s).answer ≡ Ok (Compacted n Settled) → (compacted quota s.image).ending ≡ Settled
   unfolding done closed_up_to
   settled_so n e = let q = sym (ap (λ (o : Outcome). o.answer) a.is) ∙ e in cc
 
-  again : (n : ℕ) → (step (compact quota) s).answer ≡ Done (Compacted n Settled) → (more : ℕ) → more ≤ most_quota
+  again : (n : ℕ) → (step (compact quota) s).answer ≡ Ok (Compacted n Settled) → (more : ℕ) → more ≤ most_quota
       → step (compact more) (next (compact quota) s)
-      ≡ outcome (Done (Compacted 0 Settled)) (next (compact quota) s).image (next (compact quota) s).desk []
+      ≡ outcome (Ok (Compacted 0 Settled)) (next (compact quota) s).image (next (compact quota) s).desk []
   unfolding done closed_up_to
   again n e more l =
       let c = compacted_again more v' (compacted-settled quota s.image (settled_so n e)) in
@@ -130,7 +130,7 @@ module _ (s : State) (quota : ℕ) (a : Accepted (compact quota) s) where
 pub settled_again : SettledAgain
 settled_again s quota n e more l = again s quota (accepted (compact quota) s (ap accepts e ∙ done-accepts n)) n e more l
   where
-    done-accepts : (m : ℕ) → accepts (Done (Compacted m Settled)) ≡ true
+    done-accepts : (m : ℕ) → accepts (Ok (Compacted m Settled)) ≡ true
     done-accepts m = unfold accepts in refl
 
 pub reads_alike : ReadsAlike

@@ -14,8 +14,8 @@ use Rattle.work.specs.declared.Refusal.TheVariants.{NotSound}
 use Rattle.work.specs.Refusals.{Rule, ◌if◌, code, ruled}
 use Rattle.work.proofs.Rules.{ruled_map}
 use Rattle.deskbytes.specs.DeskBytes.{desk_size, desk_form}
-use Rattle.desk.specs.declared.Answer.{Answer}
-use Rattle.desk.specs.declared.Answer.TheVariants.{Done, Refused}
+use Rattle.desk.specs.Answers.{Answer}
+use Rattle.std.specs.Prelude.{Ok, Err}
 use Rattle.desk.specs.declared.Desk.{Desk}
 use Rattle.desk.specs.Desk.{state, empty_desk}
 use Rattle.desk.specs.Answers.{Outcome, status, accepts, judged}
@@ -45,8 +45,8 @@ carried_number o l = refl
 block_in_table : (caller : ℕ) (l : Lent) → among (front caller l).returned status_table ≡ true
 block_in_table caller l =
     ⊎_elim
-    (λ r. ap (λ (e : Ended). among e.returned status_table) r.is ∙ ap (λ (n : ℕ). among n status_table) (refused_number (Refused r.why) l)
-    ∙ Answer-in_table (Refused r.why))
+    (λ r. ap (λ (e : Ended). among e.returned status_table) r.is ∙ ap (λ (n : ℕ). among n status_table) (refused_number (Err r.why) l)
+    ∙ Answer-in_table (Err r.why))
     (λ p. ap (λ (e : Ended). among e.returned status_table) p.is ∙ ap (λ (n : ℕ). among n status_table) (carried_number _ l)
     ∙ Answer-in_table (step (asked caller l) (state_of l)).answer)
     (front_cases caller l)
@@ -54,22 +54,22 @@ block_in_table caller l =
 -- an answer is done, or a refusal
 pub data Which (a : Answer) : Type 0 where
   was_done : accepts a ≡ true → status a ≡ 0 → Which a
-  was_refused : (why : Refusal) → a ≡ Refused why → Which a
+  was_refused : (why : Refusal) → a ≡ Err why → Which a
 
 pub which : (a : Answer) → Which a
 unfolding accepts
-which (Done r) = was_done refl refl
-which (Refused why) = was_refused why refl
+which (Ok r) = was_done refl refl
+which (Err why) = was_refused why refl
 
 refused_keeps : (a : Answer) (l : Lent) → LentKept l (turned_back a l).left
 unfolding turned_back
 refused_keeps a l = record { image_kept = refl; desk_kept = refl; task_kept = refl; shared_kept = refl }
 
-Desk-refused : (a : Answer) (d : Desk) (bs : List ℕ) (why : Refusal) → a ≡ Refused why → desk_after a d bs ≡ bs
+Desk-refused : (a : Answer) (d : Desk) (bs : List ℕ) (why : Refusal) → a ≡ Err why → desk_after a d bs ≡ bs
 unfolding desk_after accepts
 Desk-refused a d bs why e = ap (λ (x : Answer). if accepts x then packed_desk d else bs) e
 
-carried_keeps : (caller : ℕ) (l : Lent) → PassedFront caller l → (why : Refusal) → (step (asked caller l) (state_of l)).answer ≡ Refused why
+carried_keeps : (caller : ℕ) (l : Lent) → PassedFront caller l → (why : Refusal) → (step (asked caller l) (state_of l)).answer ≡ Err why
     → LentKept l (carried_out (step (asked caller l) (state_of l)) l).left
 unfolding carried_out
 carried_keeps caller l p why e =
@@ -83,7 +83,7 @@ carried_keeps caller l p why e =
 pub front_refusal_keeps : FrontRefusalKeeps
 front_refusal_keeps caller l n =
     ⊎_elim
-    (λ r. subst (λ (e : Ended). LentKept l e.left) (sym r.is) (refused_keeps (Refused r.why) l))
+    (λ r. subst (λ (e : Ended). LentKept l e.left) (sym r.is) (refused_keeps (Err r.why) l))
     (λ p. subst (λ (e : Ended). LentKept l e.left) (sym p.is) (go p (which (step (asked caller l) (state_of l)).answer)))
     (front_cases caller l)
   where
@@ -93,27 +93,27 @@ front_refusal_keeps caller l n =
 
 -- the same of calls over image and desk bytes: a rule of the front, or the call
 module _ (rs : List Rule) (o : Outcome) (img bs : List ℕ) where
-  served_in_table : among (ruled rs (λ why. served (status (Refused why)) img bs) (served_by o bs)).returned status_table ≡ true
+  served_in_table : among (ruled rs (λ why. served (status (Err why)) img bs) (served_by o bs)).returned status_table ≡ true
   served_in_table =
       ⊎_elim
-      (λ t. ap (λ (v : Served). among v.returned status_table) (ruled-First _ _ rs t.1 t.0 t.2) ∙ Answer-in_table (Refused t.0))
+      (λ t. ap (λ (v : Served). among v.returned status_table) (ruled-First _ _ rs t.1 t.0 t.2) ∙ Answer-in_table (Err t.0))
       (λ p. ap (λ (v : Served). among v.returned status_table) (ruled-Passes _ _ rs p) ∙ Answer-in_table o.answer)
       (refuses_or_Passes rs)
 
-  served_keeps : ((why : Refusal) → o.answer ≡ Refused why → o.image ≡ img) → (ruled rs (λ why. served (status (Refused why)) img bs) (served_by o bs)).returned ≢ 0x00
-      → ((ruled rs (λ why. served (status (Refused why)) img bs) (served_by o bs)).image ≡ img)
-      × ((ruled rs (λ why. served (status (Refused why)) img bs) (served_by o bs)).desk ≡ bs)
+  served_keeps : ((why : Refusal) → o.answer ≡ Err why → o.image ≡ img) → (ruled rs (λ why. served (status (Err why)) img bs) (served_by o bs)).returned ≢ 0x00
+      → ((ruled rs (λ why. served (status (Err why)) img bs) (served_by o bs)).image ≡ img)
+      × ((ruled rs (λ why. served (status (Err why)) img bs) (served_by o bs)).desk ≡ bs)
   served_keeps k n =
       ⊎_elim
       (λ t.
-      let q = ruled-First (λ why. served (status (Refused why)) img bs) (served_by o bs) rs t.1 t.0 t.2 in
+      let q = ruled-First (λ why. served (status (Err why)) img bs) (served_by o bs) rs t.1 t.0 t.2 in
       (ap (λ (v : Served). v.image) q, ap (λ (v : Served). v.desk) q))
-      (λ p. go (ruled-Passes (λ why. served (status (Refused why)) img bs) (served_by o bs) rs p) (which o.answer))
+      (λ p. go (ruled-Passes (λ why. served (status (Err why)) img bs) (served_by o bs) rs p) (which o.answer))
       (refuses_or_Passes rs)
     where
-      go : ruled rs (λ why. served (status (Refused why)) img bs) (served_by o bs) ≡ served_by o bs → Which o.answer
-          → ((ruled rs (λ why. served (status (Refused why)) img bs) (served_by o bs)).image ≡ img)
-          × ((ruled rs (λ why. served (status (Refused why)) img bs) (served_by o bs)).desk ≡ bs)
+      go : ruled rs (λ why. served (status (Err why)) img bs) (served_by o bs) ≡ served_by o bs → Which o.answer
+          → ((ruled rs (λ why. served (status (Err why)) img bs) (served_by o bs)).image ≡ img)
+          × ((ruled rs (λ why. served (status (Err why)) img bs) (served_by o bs)).desk ≡ bs)
       go q (was_done h z) = absurd (n (ap (λ (v : Served). v.returned) q ∙ z))
       go q (was_refused why e) = (ap (λ (v : Served). v.image) q ∙ k why e, ap (λ (v : Served). v.desk) q ∙ Desk-refused _ _ bs why e)
 
@@ -158,7 +158,7 @@ step_number c l = ruled_map (λ (o : Outcome). status o.answer) _ _ (rules c (st
 pub front_refused_exactly : FrontRefusedExactly
 unfolding front turned_back
 front_refused_exactly caller l =
-    ruled_map (λ (e : Ended). e.returned) (λ why. turned_back (Refused why) l) _ (front_rules l)
+    ruled_map (λ (e : Ended). e.returned) (λ why. turned_back (Err why) l) _ (front_rules l)
     ∙ ap (λ (n : ℕ). ruled (front_rules l) code n) (carried_number _ l ∙ step_number (asked caller l) l)
     ∙ ruled_more (front_rules l) (rules (asked caller l) (state_of l)) code 0x00
 

@@ -13,8 +13,8 @@ use borrow.Author.Tests.{eq-eqb, ne_eqb}
 use Rattle.lists.specs.Parts.{byte, long, bytes4, part, put}
 use Rattle.lists.proofs.Puts.{length-put, part-put_same, put_none}
 use Rattle.work.specs.Transfers.{moving, writing, updating}
-use Rattle.desk.specs.declared.Answer.{Answer}
-use Rattle.desk.specs.declared.Answer.TheVariants.{Refused}
+use Rattle.desk.specs.Answers.{Answer}
+use Rattle.std.specs.Prelude.{Err}
 use Rattle.desk.specs.Desk.{State}
 use Rattle.desk.specs.Answers.{Outcome, status, moved, accepts}
 use Rattle.desk.specs.Calls.{Call, rewind, write, update, given, done, quietly, transferred, step}
@@ -45,7 +45,7 @@ carried_block o l = record { answer = o.answer; number_is = refl; block_is = ref
 block_told : (caller : ℕ) (l : Lent) → BlockTold (front caller l) l.block
 block_told caller l =
     ⊎_elim
-    (λ r. subst (λ (e : Ended). BlockTold e l.block) (sym r.is) (refused_block (Refused r.why) l))
+    (λ r. subst (λ (e : Ended). BlockTold e l.block) (sym r.is) (refused_block (Err r.why) l))
     (λ p. subst (λ (e : Ended). BlockTold e l.block) (sym p.is) (carried_block _ l))
     (front_cases caller l)
 
@@ -207,7 +207,7 @@ refused_outside r a e l = record { other_area = refl; as_long = refl; outside = 
 pub only_the_part : OnlyThePart
 only_the_part caller l =
     ⊎_elim
-    (λ r. subst (λ (x : Ended). OutsideKept (start_in l.block) (end_in l.block) l x.left) (sym r.is) (refused_outside (Refused r.why) _ _ l))
+    (λ r. subst (λ (x : Ended). OutsideKept (start_in l.block) (end_in l.block) l x.left) (sym r.is) (refused_outside (Err r.why) _ _ l))
     (λ p. subst (λ (x : Ended). OutsideKept (start_in l.block) (end_in l.block) l x.left) (sym p.is) (carried_outside caller l p))
     (front_cases caller l)
 
@@ -228,14 +228,14 @@ carried_areas caller l p n =
 pub only_reads_fill : OnlyReadsFill
 only_reads_fill caller l n =
     ⊎_elim
-    (λ r. subst (λ (x : Ended). (x.left.task ≡ l.task) × (x.left.shared ≡ l.shared)) (sym r.is) (refused_areas (Refused r.why) l))
+    (λ r. subst (λ (x : Ended). (x.left.task ≡ l.task) × (x.left.shared ≡ l.shared)) (sym r.is) (refused_areas (Err r.why) l))
     (λ p. subst (λ (x : Ended). (x.left.task ≡ l.task) × (x.left.shared ≡ l.shared)) (sym p.is) (carried_areas caller l p n))
     (front_cases caller l)
 
 pub accepted_through : AcceptedThrough
 accepted_through caller l z =
     ⊎_elim
-    (λ r. absurd (code_not_0 r.why (sym (refused_number (Refused r.why) l) ∙ sym (ap (λ (x : Ended). x.returned) r.is) ∙ z)))
+    (λ r. absurd (code_not_0 r.why (sym (refused_number (Err r.why) l) ∙ sym (ap (λ (x : Ended). x.returned) r.is) ∙ z)))
     (λ p. subst (λ (x : Ended). CarriedOut (asked caller l) l (step (asked caller l) (state_of l)) x) (sym p.is) (go p (which (step (asked caller l) (state_of l)).answer)))
     (front_cases caller l)
   where

@@ -21,7 +21,7 @@ use Rattle.work.specs.declared.Refusal.TheVariants.{BadDescriptor, NoSegment, Na
 use Rattle.work.specs.Refusals.{code}
 use Rattle.work.proofs.Rules.{Passes}
 use Rattle.deskbytes.specs.DeskBytes.{desk_form}
-use Rattle.desk.specs.declared.Answer.TheVariants.{Refused}
+use Rattle.std.specs.Prelude.{Err}
 use Rattle.desk.specs.Calls.{Call, rewind, given, step}
 use Rattle.front.specs.Blocks.{block_size, function_of, lun_in, start_in, end_in, is_transfer, supported}
 use Rattle.front.specs.Areas.{names_shared, offset, area, inside, part_named, task_after, shared_after}
@@ -35,7 +35,7 @@ pub record RefusedAtFront (caller : ℕ) (l : Lent) : Type 0 where
   pub why : Refusal
   pub place : ℕ
   pub first : First (front_rules l) place why
-  pub is : front caller l ≡ turned_back (Refused why) l
+  pub is : front caller l ≡ turned_back (Err why) l
 
 pub record PassedFront (caller : ℕ) (l : Lent) : Type 0 where
   pub whole_block : length l.block ≡ block_size

@@ -13,7 +13,7 @@ use Rattle.work.specs.declared.Refusal.{Refusal}
 use Rattle.work.specs.declared.Refusal.TheVariants.{NotSound}
 use Rattle.work.specs.Refusals.{Rule, ◌if◌, ruled}
 use Rattle.deskbytes.specs.DeskBytes.{desk_size, desk_form}
-use Rattle.desk.specs.declared.Answer.TheVariants.{Refused}
+use Rattle.std.specs.Prelude.{Err}
 use Rattle.desk.specs.declared.Desk.{Desk}
 use Rattle.desk.specs.Desk.{State, state, empty_desk}
 use Rattle.desk.specs.Answers.{Outcome, status, accepts}
@@ -151,7 +151,7 @@ bring_up-desk : (s : State) → (step bring_up s).desk ≡ s.desk
 unfolding done quietly
 bring_up-desk s = ⊎_elim (λ t. ap (λ (o : Outcome). o.desk) t.is) (λ a. ap (λ (o : Outcome). o.desk) a.is) (refused_or_Accepted bring_up s)
 
-refused_not : (why : Refusal) → accepts (Refused why) ≡ false
+refused_not : (why : Refusal) → accepts (Err why) ≡ false
 unfolding accepts
 refused_not why = refl
 
@@ -219,7 +219,7 @@ unfolding serve_format ruled
 format_accepted id n img bs z = go (eqb (length bs) desk_size) refl z (which (step (format id n) (state img empty_desk)).answer)
   where
     go : (b : Bool) → eqb (length bs) desk_size ≡ b
-        → (if not b then served (status (Refused NotSound)) img bs else served_by (step (format id n) (state img empty_desk)) bs).returned ≡ 0x00
+        → (if not b then served (status (Err NotSound)) img bs else served_by (step (format id n) (state img empty_desk)) bs).returned ≡ 0x00
         → Which (step (format id n) (state img empty_desk)).answer → (length bs ≡ desk_size) × Accepts (format id n) (state img empty_desk)
     go true e y (was_done h w) = (eqb-true _ _ e, h)
     go true e y (was_refused why w) = absurd (code_not_0 why (sym (ap status w) ∙ y))

@@ -10,8 +10,8 @@ use Rattle.lists.specs.Parts.{bytes2}
 use Rattle.compaction.specs.declared.Ending.{Ending}
 use Rattle.work.specs.Refusals.{ruled}
 use Rattle.deskbytes.specs.DeskBytes.{desk_form}
-use Rattle.desk.specs.declared.Answer.{Answer}
-use Rattle.desk.specs.declared.Answer.TheVariants.{Done, Refused}
+use Rattle.desk.specs.Answers.{Answer}
+use Rattle.std.specs.Prelude.{Ok, Err}
 use Rattle.desk.specs.declared.Report.TheVariants.{Moved, Checked, Compacted}
 use Rattle.desk.specs.Desk.{state}
 use Rattle.desk.specs.Calls.{compact, step}
@@ -20,16 +20,16 @@ use Rattle.promises.specs.Fronts.{ReportsTold}
 use Rattle.promises.proofs.Fronts.FrontAnswers.{Which, was_done, was_refused, which}
 
 other_length : (a : Answer) (rep : List ℕ) → length rep ≢ report_size → reported a rep ≡ rep
-other_length (Done (Moved n)) rep h = refl
-other_length (Done (Checked s f)) rep h = refl
-other_length (Done (Compacted n why)) rep h = rw (ne_eqb (length rep) report_size h)
-other_length (Refused why) rep h = refl
+other_length (Ok (Moved n)) rep h = refl
+other_length (Ok (Checked s f)) rep h = refl
+other_length (Ok (Compacted n why)) rep h = rw (ne_eqb (length rep) report_size h)
+other_length (Err why) rep h = refl
 
 module _ (quota : ℕ) (img bs rep : List ℕ) where
   abbrev answer : Answer
   answer = (step (compact quota) (state img (unpacked_desk bs))).answer
 
-  told_done : (n : ℕ) (why : Ending) → desk_form bs ≡ true → answer ≡ Done (Compacted n why) → length rep ≡ report_size
+  told_done : (n : ℕ) (why : Ending) → desk_form bs ≡ true → answer ≡ Ok (Compacted n why) → length rep ≡ report_size
       → report_after quota img bs rep ≡ ending_number why ∷ 0 ∷ bytes2 n
   unfolding report_after ruled
   told_done n why form e h = rw (form, e, eq-eqb (length rep) report_size h)

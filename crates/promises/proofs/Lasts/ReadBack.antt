@@ -17,7 +17,7 @@ use Rattle.desk.specs.Desk.{State, aimed, file_of}
 use Rattle.desk.specs.Answers.{moved}
 use Rattle.desk.specs.Calls.{Call, write, update, step, sent}
 use Rattle.desk.specs.declared.Report.TheVariants.{Moved}
-use Rattle.desk.specs.declared.Answer.TheVariants.{Done}
+use Rattle.std.specs.Prelude.{Ok}
 use Rattle.promises.specs.Runs.{Visit}
 use Rattle.promises.specs.Sectors.{Bytes, Sound, Accepts}
 use Rattle.promises.specs.Contents.{unit_of, unit_at, slot_held, Wrote, Updated}
@@ -61,7 +61,7 @@ record_read t k i e ss same q u fmt caller lun sel num buf r ek ei =
     ∙ ap (λ (m : ℕ). handed_as fmt e (unit_at t.image m (aimed t lun sel num))) ek
     ∙ ap (λ (m : ℕ). handed_as fmt e (unit_at t.image k m)) ei
     ∙ ap (handed_as fmt e) u in
-    (R.1.buffer_has ∙ ap (λ (x : List ℕ). over x buf) is, R.1.answered ∙ ap (λ (x : List ℕ). Done (Moved (length x))) is)
+    (R.1.buffer_has ∙ ap (λ (x : List ℕ). over x buf) is, R.1.answered ∙ ap (λ (x : List ℕ). Ok (Moved (length x))) is)
 
 module _
     (s : State) (bi : Bytes s.image) (caller lun sel num : ℕ) (fmt : Bool) (bs : List ℕ) (b : Bytes bs)

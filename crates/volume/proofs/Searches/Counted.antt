@@ -3,18 +3,20 @@ use mathlib.Core.Path.{◌≡◌, refl, sym, ap, ◌∙◌}
 use mathlib.Core.Bool.{Bool, true, false}
 use mathlib.Core.List.{List}
 use Prim.Native.Nat.{ℕ, zero, suc, ◌+◌, ◌-◌, ◌*◌, ◌/◌, ◌%◌, ◌^◌, ◌≤◌, ◌<◌}
-use native.Mathlib.Nat.{add-zero, zero-add, pow-suc, div-one, mod-lt}
+use native.Mathlib.Nat.{add-zero, zero-add, sub-zero, pow-suc, div-one, mod-lt}
 use native.Mathlib.Omega.{arith}
 use lib.Arith.{lt-one}
 use lib.Count.{ones, ones_step}
 use lib.Dec.{eqb}
-use lib.ListN.{length}
+use lib.ListN.{length, take}
+use Rattle.std.specs.List.{sum_by}
+use Rattle.std.proofs.lemmas.List.Sums.{sum_by_more}
 use lib.Pow.{shr_lt}
 use Rattle.lists.specs.Lists.{range, kept}
 use Rattle.lists.specs.Parts.{byte}
 use Rattle.lists.proofs.AreBytes.{Bytes}
 use Rattle.volume.specs.Sat.{is_free}
-use Rattle.volume.specs.Code.Searches.{bit_at, clear_at}
+use Rattle.volume.specs.Code.Searches.{bit_at, clear_at, clear_bits}
 use Rattle.volume.proofs.Searches.TableQuads.{byte_clear}
 use Rattle.volume.proofs.Searches.NumberBits.{first_bits, not_bit}
 
@@ -118,3 +120,12 @@ module _ (b : List ℕ) (h : Bytes b) where
   pub all_counted : (t q n m : ℕ) → t - 8 * q ≤ 8 → m ≡ count (bit_at 8 ((2 ^ 8 - 1) - byte b q)) 0 (t - 8 * q)
       → count (is_free b) 0 t ≡ n + count (is_free b) (8 * q) (t - 8 * q) → n + m ≡ count (is_free b) 0 t
   all_counted t q n m l e p = omega (arith, p, e ∙ byte-count q (t - 8 * q) l)
+
+  -- the clear bits of the first q bytes, and the free sectors from there on
+  pub counted_so_far : (t q : ℕ) → 8 * q ≤ t → q ≤ length b → count (is_free b) 0 t ≡ sum_by clear_bits (take q b) + count (is_free b) (8 * q) (t - 8 * q)
+  unfolding clear_bits
+  counted_so_far t zero l m = rw sub-zero (sym (zero-add (count (is_free b) 0 t)))
+  counted_so_far t (suc q) l m =
+      let e : suc q ≡ q + 1 = omega arith in
+      let more = more_counted t q (sum_by clear_bits (take q b)) (clear_bits (byte b q)) (omega arith) refl (counted_so_far t q (omega arith) (omega arith)) in
+      rw (e, sum_by_more clear_bits b q 0 m) more

@@ -88,15 +88,16 @@ module _ (b : List ℕ) (h : Bytes b) where
   quad_gap q k g = not_bit 64 (quad b q) k (quad-lt q) g ∙ ap not (quad_bit q k g)
 
   -- one quad more that has no free sector
-  pub Passed-more : (q j : ℕ) → j % 8 ≡ 0 → j < 256 → Passed b q j → (2 ^ 64 - 1) - quad b (j / 8) ≡ 0 → Passed b q (j + 8)
-  Passed-more q j a l p z = record {
+  pub Passed-more : (q j : ℕ) → j < 32 → Passed b q (8 * j) → quad b j ≡ 2 ^ 64 - 1 → Passed b q (8 * (j + 1))
+  Passed-more q j l p z = record {
     from = omega (arith, p.from);
     to = omega arith;
-    none = λ s f t. elim (dec_lt s (8 * j)) [
-      | yes g ↦ p.none s f g
+    none = λ s f t. elim (dec_lt s (64 * j)) [
+      | yes g ↦ p.none s f (omega arith)
       | no g ↦
-          let e : 64 * (j / 8) + (s - 8 * j) ≡ s = omega arith in
-          rw e at (sym (quad_gap (j / 8) (s - 8 * j) (omega arith)) ∙ zero_bit 64 ((2 ^ 64 - 1) - quad b (j / 8)) (s - 8 * j) z)
+          let e : 64 * j + (s - 64 * j) ≡ s = omega arith in
+          let none : (2 ^ 64 - 1) - quad b j ≡ 0 = omega arith in
+          rw e at (sym (quad_gap j (s - 64 * j) (omega arith)) ∙ zero_bit 64 ((2 ^ 64 - 1) - quad b j) (s - 64 * j) none)
     ];
   }
 

@@ -35,12 +35,3 @@ module _ (img : List ℕ) (p : Layout) (l : Located img p) (k : ℕ) (h : k < 8 
             ∙ all-part _ (32 * i) 32 (sector (dir_at img + k / 8) img) s;
         taken = λ e. absurd (omega (arith, e));
       }
-
-  pub Gap-one : unused (entry_at img k) ≡ true → Gap img k 1
-  Gap-one u =
-      let d = l.is_dirs in
-      record {
-        within = omega arith;
-        none = λ i g. ap (λ (j : ℕ). unused (entry_at img j)) (omega arith) ∙ u;
-        taken = λ e. absurd (omega (arith, e));
-      }

@@ -17,7 +17,7 @@ use Rattle.volume.proofs.clashes.EntryClashes.{unused_after}
 use Rattle.volume.proofs.clashes.NamesDiffer.{unused-alone}
 use Rattle.volume.specs.Code.Located.{Located}
 use Rattle.volume.specs.declared.locate.Layout.{Layout}
-use Rattle.volume.proofs.Slots.{length-entries, length_entry}
+use Rattle.volume.proofs.Slots.{length-entries}
 
 abbrev in_use : List ℕ → Bool
 in_use e = not (unused e)
@@ -152,9 +152,6 @@ module _ (img : List ℕ) (p : Layout) (l : Located img p) (used : List ℕ) (is
   pub listed_used : unused (get_or (used_entries img) i []) ≡ false
   unfolding used_entries
   listed_used = used_at (entries img) i listed_few
-
-  pub listed_long : length (get_or (used_entries img) i []) ≡ 32
-  listed_long = ap length (sym listed_entry) ∙ length_entry img p l (get_or used i 0) listed_below
 
 -- no more than a directory has
 pub listed_most : (img : List ℕ) (p : Layout) → Located img p → (used : List ℕ) → used ≡ used_slots img → length used ≤ 8 * most_dirs

@@ -1,16 +1,14 @@
 -- Where a volume has its parts, as numbers that the code carries along, how they are found, and what is known of them once point 1 of
 -- soundness holds.
-use Rattle.std.specs.Prelude.{if◌then◌else◌, List, ◌≡◌, Bool, true, ℕ, ◌+◌, ◌-◌, ◌*◌, ◌≤◌, ◌<◌, length, drop, eqb, leb, ltb}
+use Rattle.std.specs.Prelude.{if◌then◌else◌, List, ◌≡◌, Bool, true, ℕ, ◌+◌, ◌-◌, ◌*◌, ◌≤◌, ◌<◌, length, drop, eqb, leb, ltb, Option, Some, None}
 use Rattle.numbers.specs.Numbers.{most_sectors, most_dirs, fewest_sectors}
 use Rattle.lists.specs.Parts.{sectors, word, zeros}
 use Rattle.lists.specs.Lists.{◌and◌}
 use Rattle.volume.specs.Volume.{sat_back, dir_back, dir_count, sat_at, dir_at, dirs, layout_of, sound1}
 use Rattle.volume.specs.declared.locate.Layout.{Layout}
-use Rattle.volume.specs.declared.locate.Where.{Where}
-use Rattle.volume.specs.declared.locate.Where.TheVariants.{At, Nowhere}
 
-unfoldable pub where_of : List ℕ → Where
-where_of img = if sound1 img then At (layout_of img) else Nowhere
+unfoldable pub where_of : List ℕ → Option Layout
+where_of img = if sound1 img then Some (layout_of img) else None
 
 -- point 1 in the order in which the code asks: the length, the trailer, then the rest
 abbrev pub sized_test : List ℕ → Bool

@@ -1,6 +1,6 @@
 -- The SAT as the searches go through it: bytes and quads, which are eight bytes as one number, and their bits counted from the top.
-use Rattle.std.specs.Prelude.{Bool, true, false, not, List, ◌≡◌, ℕ, ◌+◌, ◌-◌, ◌/◌, ◌%◌, ◌^◌, ◌*◌, ◌≤◌, ◌<◌, leb, eqb}
-use Rattle.lists.specs.Lists.{range, ◌and◌, all}
+use Rattle.std.specs.Prelude.{Bool, true, false, not, List, ◌≡◌, ℕ, ◌+◌, ◌-◌, ◌/◌, ◌%◌, ◌^◌, ◌*◌, ◌≤◌, ◌<◌, leb, eqb, length}
+use Rattle.lists.specs.Lists.{range, ◌and◌, all, kept}
 use Rattle.lists.specs.Parts.{long}
 use Rattle.volume.specs.Sat.{is_free}
 
@@ -10,6 +10,10 @@ bit_at w x k = eqb (x / 2 ^ (w - (k + 1)) % 2) 1
 
 unfoldable pub clear_at : ℕ → ℕ → ℕ → Bool
 clear_at w x k = not (bit_at w x k)
+
+-- how many bits of a byte are clear
+unfoldable pub clear_bits : ℕ → ℕ
+clear_bits b = length (kept (bit_at 8 (255 - b)) (range 0 8))
 
 -- quad q of the table, the highest byte first: the bits of the sectors from 64 q on
 unfoldable pub quad : List ℕ → ℕ → ℕ

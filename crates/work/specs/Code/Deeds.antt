@@ -1,37 +1,42 @@
 -- What the work of a call comes to, as its function hands it back: its answer, and image and buffer after it. Each is the rules of the
 -- call's own, and then its change.
-use Rattle.std.specs.Prelude.{Bool, List, [], ℕ, length}
+use Rattle.std.specs.Prelude.{Bool, List, [], ℕ, length, Result, Ok, Err}
 use Rattle.lists.specs.Parts.{sectors}
 use Rattle.volume.specs.Formatted.{formatted}
 use Rattle.volume.specs.Directory.{entry_at}
 use Rattle.files.specs.Changes.{updated, brought_up}
-use Rattle.work.specs.declared.Worked.{Worked}
-use Rattle.work.specs.declared.Worked.TheVariants.{Denied, Did}
+use Rattle.files.specs.declared.replace.ReplaceError.{ReplaceError}
+use Rattle.files.specs.declared.replace.ReplaceError.TheVariants as replacing
+use Rattle.work.specs.declared.Refusal.{Refusal}
+use Rattle.work.specs.declared.Refusal.TheVariants.{PastEnd, OtherLength}
+use Rattle.work.specs.declared.Transfer.{Transfer}
 use Rattle.work.specs.Refusals.{Rule, ruled}
 use Rattle.work.specs.Transfers.{Moving, moving, read_rules, reading, store_rules, write_rules, written, writing, room_rules}
 use Rattle.work.specs.Transfers.{replace_rules, update_rules, updating}
 use Rattle.work.specs.Volumes.{format_rules, bring_up_rules, allocate_rules, new_file, place_rules, named_rules, slot_of}
-use Rattle.work.specs.declared.Sought.{Sought}
-use Rattle.work.specs.declared.Sought.TheVariants as sought
 
 pub record Deed : Type 0 where
-  pub answer : Worked
+  pub answer : Result Transfer Refusal
   pub image : List ℕ
   pub buffer : List ℕ
 
-abbrev pub deed : Worked → List ℕ → List ℕ → Deed
+-- so many bytes moved, from that number on, so many of them
+abbrev pub done : ℕ → ℕ → ℕ → Result Transfer Refusal
+done b i n = Ok (record { bytes = b; from = i; count = n })
+
+abbrev pub deed : Result Transfer Refusal → List ℕ → List ℕ → Deed
 deed a img buf = record { answer = a; image = img; buffer = buf }
 
 -- by these rules, on an image and a buffer that a refusal leaves: that change
 unfoldable pub done_by : List Rule → List ℕ → List ℕ → Deed → Deed
-done_by rs img buf d = ruled rs (λ why. deed (Denied why) img buf) d
+done_by rs img buf d = ruled rs (λ why. deed (Err why) img buf) d
 
 unfoldable pub moved : Moving → Deed
-moved m = deed (Did m.bytes m.from m.count) m.image m.buffer
+moved m = deed (done m.bytes m.from m.count) m.image m.buffer
 
 -- a change with no data
 unfoldable pub quiet : List ℕ → Deed
-quiet img = deed (Did 0 0 0) img []
+quiet img = deed (done 0 0 0) img []
 
 unfoldable pub read_deed : List ℕ → List ℕ → ℕ → Bool → List ℕ → Deed
 read_deed img e i fmt buf = done_by (read_rules img e i fmt (length buf)) img buf (moved (reading img e i fmt buf))
@@ -69,5 +74,10 @@ unfoldable pub place_deed : List ℕ → List ℕ → ℕ → ℕ → ℕ → �
 place_deed img desc k n l rc = done_by (place_rules img k n) img [] (quiet (new_file img desc k n l rc))
 
 -- the slot of a descriptor
-unfoldable pub sought_of : List ℕ → List ℕ → Sought
-sought_of img desc = ruled (named_rules img desc) sought.Denied (sought.At (slot_of img desc))
+unfoldable pub sought_of : List ℕ → List ℕ → Result ℕ Refusal
+sought_of img desc = ruled (named_rules img desc) Err (Ok (slot_of img desc))
+
+-- why a record is not replaced, as a refusal
+abbrev pub refusal_of : ReplaceError → Refusal
+refusal_of replacing.PastEnd = PastEnd
+refusal_of replacing.OtherLength = OtherLength

@@ -6,8 +6,7 @@ use Rattle.lists.specs.Lists.{◌and◌, ◌or◌}
 use Rattle.lists.specs.Parts.{part, over}
 use Rattle.text.specs.Packing.{is_text}
 use Rattle.work.specs.Refusals.{◌if◌}
-use Rattle.work.specs.declared.Worked.TheVariants.{Did}
-use Rattle.work.specs.Code.Deeds.{Deed, deed, done_by}
+use Rattle.work.specs.Code.Deeds.{Deed, deed, done, done_by}
 use Rattle.work.specs.declared.Refusal.TheVariants.{BadLength, PastEnd}
 use Rattle.work.specs.Transfers.{odd_length}
 
@@ -17,18 +16,11 @@ fewer n i m = if leb (i + m) n then m else n - i
 
 -- of the n sectors from s on: those from number i on
 unfoldable pub ran_read : List ℕ → ℕ → ℕ → ℕ → List ℕ → Deed
-ran_read img s i k buf = deed (Did (256 * k) i k) img (over (part (256 * (s + i)) (256 * k) img) buf)
+ran_read img s i k buf = deed (done (256 * k) i k) img (over (part (256 * (s + i)) (256 * k) img) buf)
 
 unfoldable pub read_run : List ℕ → ℕ → ℕ → ℕ → List ℕ → Deed
 read_run img s n i buf =
     done_by (BadLength if odd_length (length buf) ∷ PastEnd if leb n i ∷ []) img buf (ran_read img s i (fewer n i (length buf / 256)) buf)
-
--- of n records: number i, of which the bytes bs are handed over
-unfoldable pub read_one : List ℕ → ℕ → ℕ → List ℕ → List ℕ → Deed
-read_one img n i bs buf =
-    done_by
-    (PastEnd if leb n i ∷ BadLength if ltb (length buf) (length bs) ∷ [])
-    img buf (deed (Did (length bs) i 1) img (over bs buf))
 
 -- bytes that may be sent as a text
 unfoldable pub text_fits : List ℕ → Bool

@@ -6,7 +6,4 @@ use Rattle.volume.specs.Sat.{is_free}
 use Rattle.bench.proofs.plain.free_count.Given as goal
 
 abbrev pub invariant-loop-i : goal.invariant-loop-i
-invariant-loop-i l = (l.i ≤ l.t) × (l.n ≤ l.i) × (length (kept (is_free l.sat) (range 0 l.t)) ≡ l.n + length (kept (is_free l.sat) (range l.i (l.t - l.i))))
-
-abbrev pub decreases-loop-i : goal.decreases-loop-i
-decreases-loop-i l = l.t - l.i
+invariant-loop-i l = (l.n ≤ l.i) × (length (kept (is_free l.sat) (range 0 l.t)) ≡ l.n + length (kept (is_free l.sat) (range l.i (l.t - l.i))))

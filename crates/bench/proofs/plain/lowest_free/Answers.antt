@@ -7,12 +7,12 @@ use Rattle.bench.proofs.plain.lowest_free.Goals as goal
 
 pub loop-k-init : goal.loop-k-init
 loop-k-init c =
-    Found-none (is_free c.args.sat.now) c.args.t c.args.n c.args.out.now c.requires.2 c.requires.3
+    Found-none (is_free c.args.sat.now) c.args.t c.args.n c.args.out.now c.requires.1 c.requires.2
 
 pub overflow_cast-out : goal.overflow_cast-out
 overflow_cast-out c =
     let l = c.loop-k in
-    let b = found_below (is_free c.args.sat.now) c.args.t c.args.n c.args.out.now c.requires.2 c.requires.3 l.k l.from l.out l.invariant (omega arith) _
+    let b = found_below (is_free c.args.sat.now) c.args.t c.args.n c.args.out.now c.requires.1 c.requires.2 l.k l.from l.out l.invariant (omega arith) _
     c.next_free-s.ensures in
     omega arith
 
@@ -22,20 +22,17 @@ bounds-out-k c = omega (arith, c.loop-k.invariant.long)
 pub overflow_add-from : goal.overflow_add-from
 overflow_add-from c =
     let l = c.loop-k in
-    let b = found_below (is_free c.args.sat.now) c.args.t c.args.n c.args.out.now c.requires.2 c.requires.3 l.k l.from l.out l.invariant (omega arith) _
+    let b = found_below (is_free c.args.sat.now) c.args.t c.args.n c.args.out.now c.requires.1 c.requires.2 l.k l.from l.out l.invariant (omega arith) _
     c.next_free-s.ensures in
     omega arith
 
 pub loop-k-preserved : goal.loop-k-preserved
 loop-k-preserved c =
     let l = c.loop-k in
-    Found-more (is_free c.args.sat.now) c.args.t c.args.n c.args.out.now c.requires.2 c.requires.3 l.k l.from l.out l.invariant (omega arith) _
+    Found-more (is_free c.args.sat.now) c.args.t c.args.n c.args.out.now c.requires.1 c.requires.2 l.k l.from l.out l.invariant (omega arith) _
     c.next_free-s.ensures _ refl (simp length-set l.invariant.long)
-
-pub shape_of-out : goal.shape_of-out
-shape_of-out c = c.loop-k.invariant.long
 
 pub returns : goal.returns
 returns c =
     let l = c.loop-k in
-    Found-all (is_free c.args.sat.now) c.args.t c.args.n c.args.out.now c.requires.2 c.requires.3 l.k l.from l.out (omega arith) l.invariant
+    Found-all (is_free c.args.sat.now) c.args.t c.args.n c.args.out.now c.requires.1 c.requires.2 l.k l.from l.out (omega arith) l.invariant

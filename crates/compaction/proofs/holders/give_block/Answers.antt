@@ -1,38 +1,45 @@
-use mathlib.Core.Path.{refl, sym, ◌∙◌}
-use Prim.Native.Nat.{◌≤◌, ◌<◌}
+use Rattle.std.proofs.Common.{◌≤◌, ◌<◌, length, refl, sym, ap, ◌∙◌, rules}
 use native.Mathlib.Omega.{arith}
-use lib.ListN.{length}
 use Rattle.ownership.specs.Blocks.{pairs, sectors_of, segments}
 use Rattle.ownership.proofs.BlockFacts.{block_facts}
 use Rattle.ownership.proofs.BlockTests.{pairs-length}
 use Rattle.ownership.proofs.OwnedRuns.{segment_fits, run_segment}
+use Rattle.ownership.proofs.Pairs.{pair_start, pair_length}
 use Rattle.compaction.proofs.holders.HolderTable.{segments_more, segments_end}
-use borrow.Author.Rules.{rules}
 use Rattle.compaction.proofs.holders.give_block.Goals as goal
 
-pub loop-i-init : goal.loop-i-init
+pub pairs-pair-items-requires : goal.pairs-pair-items-requires
+pairs-pair-items-requires c = (search rules, (block_facts c.args.t c.args.f.now c.requires.1).few)
+
+pub loop-pair-init : goal.loop-pair-init
 unfolding sectors_of
-loop-i-init c = (search rules, omega (arith, c.segments-n.ensures.0, (block_facts c.args.t c.args.f.now c.requires.3).few), refl, refl)
+loop-pair-init c = refl
 
 pub give_run-requires : goal.give_run-requires
 give_run-requires c =
-    let l = c.loop-i in
+    let l = c.loop-pair in
     let f = c.args.f.now in
-    let h : l.i < segments f = omega (arith, c.segments-n.ensures.0) in
-    omega (arith, segment_fits f l.i _ _ h c.seg_start-s.ensures.0 c.seg_length-len.ensures.0 c.args.t c.requires.3)
+    let ps = c.pairs-pair-items.ensures.is in
+    let h : l.pair-index < segments f = omega (arith, ap length ps, pairs-length f) in
+    let st = pair_start f _ l.pair-index _ _ ps (omega arith) c.of-start.ensures.start in
+    let ln = pair_length f _ l.pair-index _ _ ps (omega arith) c.of-start.ensures.length in
+    let q = segment_fits f l.pair-index _ _ h st ln c.args.t c.requires.1 in
+    omega arith
 
-pub loop-i-preserved : goal.loop-i-preserved
-loop-i-preserved c =
-    let l = c.loop-i in
+pub loop-pair-preserved : goal.loop-pair-preserved
+loop-pair-preserved c =
+    let l = c.loop-pair in
     let f = c.args.f.now in
-    let h : l.i < segments f = omega (arith, c.segments-n.ensures.0) in
-    let g : l.i < length (pairs f) = omega (arith, pairs-length f) in
-    let r = run_segment f l.i _ _ h c.seg_start-s.ensures.0 c.seg_length-len.ensures.0 in
-    (omega arith, omega arith, c.give_run.auto.who ∙ l.invariant.2, rw c.give_run.ensures (sym (segments_more _ (pairs f) l.i _ _ g r)) ∙ l.invariant.3)
+    let ps = c.pairs-pair-items.ensures.is in
+    let g : l.pair-index < length (pairs f) = omega (arith, ap length ps) in
+    let h : l.pair-index < segments f = omega (arith, pairs-length f) in
+    let st = pair_start f _ l.pair-index _ _ ps (omega arith) c.of-start.ensures.start in
+    let ln = pair_length f _ l.pair-index _ _ ps (omega arith) c.of-start.ensures.length in
+    rw c.give_run.ensures (sym (segments_more _ (pairs f) l.pair-index _ _ g (run_segment f l.pair-index _ _ h st ln))) ∙ l.invariant
 
 pub returns : goal.returns
 returns c =
-    let l = c.loop-i in
+    let l = c.loop-pair in
     let f = c.args.f.now in
-    let g : length (pairs f) ≤ l.i = omega (arith, pairs-length f, c.segments-n.ensures.0) in
-    sym (segments_end _ (pairs f) l.i _ g) ∙ l.invariant.3
+    let g : length (pairs f) ≤ l.pair-index = omega (arith, ap length c.pairs-pair-items.ensures.is) in
+    sym (segments_end _ (pairs f) l.pair-index _ g) ∙ l.invariant

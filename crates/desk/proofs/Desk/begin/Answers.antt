@@ -8,7 +8,7 @@ returns-in_default c = begun_nowhere _ _ _ (sym c.locate_sound.ensures ∙ c.in_
 
 pub fits-requires : goal.fits-requires
 fits-requires c =
-    let s = sound-Layout _ _ (sym c.locate_sound.ensures ∙ c.in-At.is) in
+    let s = sound-Layout _ _ (sym c.locate_sound.ensures ∙ c.in-Some.is) in
     (s.1, s.0)
 
 pub returns-then-not-fits : goal.returns-then-not-fits
@@ -16,8 +16,8 @@ returns-then-not-fits c = begun_misfit _ _ _ (sym c.fits.ensures ∙ c.if-not-fi
 
 pub returns-then-not-fine : goal.returns-then-not-fine
 returns-then-not-fine c =
-    begun_bad _ _ _ _ (sym c.locate_sound.ensures ∙ c.in-At.is) (sym c.fits.ensures ∙ c.if-not-fits.false) c.if-not-fine.true
+    begun_bad _ _ _ _ (sym c.locate_sound.ensures ∙ c.in-Some.is) (sym c.fits.ensures ∙ c.if-not-fits.false) c.if-not-fine.true
 
 pub returns : goal.returns
 returns c =
-    begun_at _ _ _ _ (sym c.locate_sound.ensures ∙ c.in-At.is) (sym c.fits.ensures ∙ c.if-not-fits.false) c.if-not-fine.false
+    begun_at _ _ _ _ (sym c.locate_sound.ensures ∙ c.in-Some.is) (sym c.fits.ensures ∙ c.if-not-fits.false) c.if-not-fine.false

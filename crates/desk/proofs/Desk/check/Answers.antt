@@ -13,4 +13,4 @@ overflow_cast-free c = record { fits = omega (arith, check_few c.args.image.now,
 
 pub returns : goal.returns
 unfolding step rules done given judged ruled checked checked_of
-returns c = rw (c.done.ensures, c.check-verdict.ensures)
+returns c = rw (c.reply.ensures.answer, c.reply.ensures.desk, c.check-verdict.ensures)

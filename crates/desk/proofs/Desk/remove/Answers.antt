@@ -10,13 +10,12 @@ use Rattle.desk.proofs.Desk.remove.Goals as goal
 pub returns-then-not-has_right : goal.returns-then-not-has_right
 unfolding remove_left remove_rules judged ruled
 returns-then-not-has_right c =
-    rw (c.refused.ensures, sym (c.has_right.ensures ∙ ap (has_right _) c.user_of.ensures.0) ∙ c.if-not-has_right.true)
+    rw (sym (c.has_right.ensures ∙ ap (has_right _) c.user_of.ensures.0) ∙ c.if-not-has_right.true)
 
 pub returns-then-is_held : goal.returns-then-is_held
 unfolding remove_left remove_rules judged ruled
 returns-then-is_held c =
     rw (
-      c.refused-then-is_held.ensures,
       sym (c.has_right.ensures ∙ ap (has_right _) c.user_of.ensures.0) ∙ c.if-not-has_right.false,
       sym
           c.is_held.ensures ∙ c.if-is_held.true,
@@ -32,7 +31,6 @@ pub returns : goal.returns
 unfolding remove_left remove_rules quietly judged ruled
 returns c =
     rw (
-      c.done.ensures,
       c.delete.ensures,
       sym (c.has_right.ensures ∙ ap (has_right _) c.user_of.ensures.0)
           ∙ c.if-not-has_right.false,

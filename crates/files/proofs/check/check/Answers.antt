@@ -3,11 +3,11 @@ use Rattle.files.proofs.check.SoundVerdict.{no_layout, checked_no, sound-Layout,
 use Rattle.files.proofs.check.check.Goals as goal
 
 pub returns-in_default : goal.returns-in_default
-returns-in_default c = checked_no _ (no_layout _ (sym c.locate_sound-found.ensures ∙ c.in_default.is))
+returns-in_default c = checked_no _ (no_layout _ (sym c.locate_sound.ensures ∙ c.in_default.is))
 
 pub free_sectors-free-requires : goal.free_sectors-free-requires
-free_sectors-free-requires c = (sound-Layout _ _ (sym c.locate_sound-found.ensures ∙ c.in-At.is)).1
+free_sectors-free-requires c = (sound-Layout _ _ (sym c.locate_sound.ensures ∙ c.in-Some.is)).1
 
 pub returns : goal.returns
 returns c =
-    checked_yes _ _ c.free_sectors-free.ensures (sound-Layout _ _ (sym c.locate_sound-found.ensures ∙ c.in-At.is)).0
+    checked_yes _ _ c.free_sectors-free.ensures (sound-Layout _ _ (sym c.locate_sound.ensures ∙ c.in-Some.is)).0

@@ -1,16 +1,15 @@
 use mathlib.Core.Path.{sym, ◌∙◌}
 use Rattle.files.specs.Code.Verdict.{content_of}
 use Rattle.files.proofs.check.FileTails.{tail_within}
-use Rattle.files.proofs.check.FileTails.{tail_within}
 use Rattle.files.proofs.check.content_count.Goals as goal
 
 pub walk-requires : goal.walk-requires
-walk-requires c = (c.requires.0, tail_within _ _ c.requires.0 _ c.requires.1)
+walk-requires c = tail_within _ _ c.args.stream.now.mapped _ c.requires
 
 pub returns-then-tail_zero : goal.returns-then-tail_zero
 unfolding content_of
 returns-then-tail_zero c = c.walk.ensures ∙ rw (sym c.tail_zero.ensures ∙ c.if-tail_zero.true)
 
-pub returns : goal.returns
+pub returns-else-tail_zero : goal.returns-else-tail_zero
 unfolding content_of
-returns c = rw (sym c.tail_zero.ensures ∙ c.if-tail_zero.false)
+returns-else-tail_zero c = rw (sym c.tail_zero.ensures ∙ c.if-tail_zero.false)

@@ -1,58 +1,35 @@
-use mathlib.Core.List.{[]}
-use mathlib.Core.Path.{ap, ◌∙◌, sym}
-use native.Mathlib.Omega.{arith}
-use lib.ListN.{length}
-use Rattle.lists.proofs.Walks.{all_stop, all_more, all_end}
-use Rattle.volume.specs.Directory.{unused}
+use Rattle.std.proofs.Common.{ℕ, [], get_or, length, arith, refl, ap, sym, ◌∙◌, rules, tests}
+use Rattle.std.proofs.lemmas.Iterator.{YieldsList-from_range, serves_from_Range}
+use Rattle.std.proofs.lemmas.Iterator.Search.{all_from_yields_List}
+use Rattle.volume.specs.Directory.{entries, unused}
 use Rattle.volume.specs.Code.Used.{used_entries}
-use Rattle.volume.proofs.used.UsedSlots.{all_used, listed_below, listed_entry, listed_few, listed_length, listed_long, listed_used}
+use Rattle.volume.proofs.used.UsedSlots.{all_used, listed_below, listed_entry, listed_length, listed_used}
+use Rattle.volume.proofs.used.Walked.{all_walked}
 use Rattle.files.specs.Code.Verdict.{file_sound}
 use Rattle.files.proofs.map.OpenBlock.{Opens-at}
 use Rattle.files.proofs.check.FileVerdicts.{sound_none}
 use Rattle.files.proofs.check.contents_sound.Goals as goal
 
-pub loop-i-init : goal.loop-i-init
-unfolding used_entries
-loop-i-init c = (omega arith, all_used _ _ (λ e u. sym (sound_none _ e u)))
-
-pub entry_of-requires : goal.entry_of-requires
-entry_of-requires c =
-    let l = c.loop-i in
-    (c.requires.0, rw c.wide.ensures.0 (listed_below _ _ c.requires.0 _ c.requires.3 l.i (omega arith)))
-
-pub file_sound-requires : goal.file_sound-requires
-file_sound-requires c =
-    let l = c.loop-i in
-    let img = c.args.img.now in
-    let q = rw c.wide.ensures.0 at c.entry_of.ensures in
-    let e = q ∙ listed_entry img _ c.requires.0 _ c.requires.3 l.i (omega arith) in
-    let u = ap unused e ∙ listed_used img _ c.requires.0 _ c.requires.3 l.i (omega arith) in
-    let below = listed_below img _ c.requires.0 _ c.requires.3 l.i (omega arith) in (
-      ap length e ∙ listed_long img _ c.requires.0 _ c.requires.3 l.i (omega arith),
-      u,
-      λ v. rw q (Opens-at img _ c.requires.0 c.requires.1 c.requires.2 _ below (rw q at u) (rw q at v)),
-    )
-
-pub returns-then-not-file_sound : goal.returns-then-not-file_sound
-returns-then-not-file_sound c =
-    let l = c.loop-i in
-    let img = c.args.img.now in
-    let q = rw c.wide.ensures.0 at c.entry_of.ensures in
-    let e = ap (file_sound img) (q ∙ listed_entry img _ c.requires.0 _ c.requires.3 l.i (omega arith)) in
-    let h = listed_few img _ c.requires.0 _ c.requires.3 l.i (omega arith) in
-    sym (l.invariant.1 ∙ all_stop (file_sound img) (used_entries img) [] l.i h (sym e ∙ sym c.file_sound.ensures ∙ c.if-not-file_sound.true))
-
-pub loop-i-preserved : goal.loop-i-preserved
-loop-i-preserved c =
-    let l = c.loop-i in
-    let img = c.args.img.now in
-    let q = rw c.wide.ensures.0 at c.entry_of.ensures in
-    let e = ap (file_sound img) (q ∙ listed_entry img _ c.requires.0 _ c.requires.3 l.i (omega arith)) in
-    let h = listed_few img _ c.requires.0 _ c.requires.3 l.i (omega arith) in
-    (omega arith, l.invariant.1 ∙ all_more (file_sound img) (used_entries img) [] l.i h (sym e ∙ sym c.file_sound.ensures ∙ c.if-not-file_sound.false))
+pub all-requires-clause-callable : goal.all-requires-clause-callable
+all-requires-clause-callable c =
+    let u = c.args.used.now in
+    let img = u.volume.img.now in
+    serves_from_Range (λ x q k. search rules) (λ x lo hi. (
+      (λ κs rp gn a r x1 x2 t. hi),
+      (λ κs rp gn a r x1 x2 entry t.
+          let e = entry.ensures ∙ sym (listed_entry img _ u.volume.located _ u.listed x hi) in
+          let used = ap unused entry.ensures ∙ listed_used img _ u.volume.located _ u.listed x hi in
+          let below = listed_below img _ u.volume.located _ u.listed x hi in
+          (used, λ v. rw e (Opens-at img _ u.volume.located c.requires.0 c.requires.1 _ below (rw e at used) (rw e at v)))),
+    ))
 
 pub returns : goal.returns
+unfolding used_entries
 returns c =
-    let l = c.loop-i in
-    let img = c.args.img.now in
-    sym (l.invariant.1 ∙ all_end (file_sound img) (used_entries img) l.i (omega (arith, listed_length img _ c.requires.3)))
+    let u = c.args.used.now in
+    let img = u.volume.img.now in
+    let long = listed_length img u.slots.now u.listed in
+    all_from_yields_List (λ (i : ℕ). file_sound img (get_or (used_entries img) i [])) _ _ c.all.result c.all.ensures.ran
+    (YieldsList-from_range 0 (length u.slots.now) (length u.slots.now) refl (omega arith)) (λ x b q k. search (rules, tests))
+    ∙ all_walked _ (file_sound img) (used_entries img) (λ i h. refl) _ 0 (omega (arith, long))
+    ∙ sym (all_used (file_sound img) (entries img) (λ e z. sym (sound_none img e z)))

@@ -7,19 +7,19 @@ use Rattle.files.proofs.check.tail_zero.Goals as goal
 
 pub returns-then-r-eq0 : goal.returns-then-r-eq0
 returns-then-r-eq0 c =
-    sym (no_tail c.args.img.now c.args.map.now c.requires.0 c.args.e c.requires.1 c.if-r-eq0.true)
+    sym (no_tail c.args.stream.now.img.now c.args.stream.now.map.now c.args.stream.now.mapped c.args.e c.requires c.if-r-eq0.true)
 
-pub bounds-map-e : goal.bounds-map-e
-bounds-map-e c =
-    tail_here c.args.img.now c.args.map.now c.requires.0 c.args.e c.requires.1 c.if-r-eq0.false
+pub bounds-stream-e : goal.bounds-stream-e
+bounds-stream-e c =
+    tail_here c.args.stream.now.img.now c.args.stream.now.map.now c.args.stream.now.mapped c.args.e c.requires c.if-r-eq0.false
 
 pub slice_bounds-all_zero-end : goal.slice_bounds-all_zero-end
 slice_bounds-all_zero-end c =
-    let h = tail_here c.args.img.now c.args.map.now c.requires.0 c.args.e c.requires.1 c.if-r-eq0.false in
-    omega (arith, c.requires.0.inside (c.args.e / 256) h, c.wide16-last.ensures.0)
+    let h = tail_here c.args.stream.now.img.now c.args.stream.now.map.now c.args.stream.now.mapped c.args.e c.requires c.if-r-eq0.false in
+    omega (arith, c.args.stream.now.mapped.inside (c.args.e / 256) h, c.from-last.ensures)
 
 pub returns : goal.returns
 returns c =
     c.all_zero.ensures
-    ∙ ap zeros (tail_part c.args.img.now c.args.map.now c.requires.0 c.args.e c.requires.1 c.if-r-eq0.false _
-    c.wide16-last.ensures.0)
+    ∙ ap zeros (tail_part c.args.stream.now.img.now c.args.stream.now.map.now c.args.stream.now.mapped c.args.e c.requires c.if-r-eq0.false _
+    c.from-last.ensures)

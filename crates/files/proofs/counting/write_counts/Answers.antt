@@ -4,16 +4,11 @@ use native.Mathlib.Omega.{arith}
 use lib.ListN.{length}
 use Rattle.volume.proofs.EntriesMade.{made_to}
 use Rattle.files.specs.Changes.{counted_in}
-use Rattle.files.proofs.counting.CountLoops.{up_first, up_last, up_long, up_in, up_next}
+use Rattle.files.proofs.counting.CountLoops.{up_first, up_last, up_long, up_next}
 use Rattle.files.proofs.counting.write_counts.Goals as goal
 
 pub loop-k-init : goal.loop-k-init
 loop-k-init c = (refl, omega arith, sym (up_first c.args.img.now c.args.p c.requires.0))
-
-pub put_count-requires : goal.put_count-requires
-put_count-requires c =
-    let l = c.loop-k in
-    (up_in c.args.img.now c.args.p c.requires.0 l.k (omega arith) _ l.invariant.2, (c.requires.2 l.k (omega arith)).1)
 
 pub loop-k-preserved : goal.loop-k-preserved
 loop-k-preserved c =
@@ -21,9 +16,6 @@ loop-k-preserved c =
     let more = up_next c.args.img.now c.args.p c.requires.0 l.k (omega arith) _ _ _ (c.requires.2 l.k (omega arith)).0 l.invariant.2
     c.put_count.ensures in
     (ap length more ∙ up_long c.args.img.now c.args.p c.requires.0 _ (omega arith), omega arith, more)
-
-pub shape_of-img : goal.shape_of-img
-shape_of-img c = c.loop-k.invariant.0
 
 pub returns : goal.returns
 returns c =

@@ -1,4 +1,4 @@
-use mathlib.Core.Path.{◌≡◌, refl, sym}
+use mathlib.Core.Path.{refl, sym}
 use native.Mathlib.Omega.{arith}
 use lib.ListN.{length-set}
 use Rattle.lists.specs.Lists.{range}
@@ -15,10 +15,3 @@ loop-i-preserved c =
     let a = c.args in
     let l = c.loop-i in
     (omega arith, run_filled a.at a.s l.i a.map.now l.map (omega arith) l.invariant.1 l.invariant.2, simp length-set l.invariant.2)
-
-pub returns : goal.returns
-returns c =
-    let a = c.args in
-    let l = c.loop-i in
-    let e : l.i ≡ a.n = omega arith in
-    rw e at l.invariant.1

@@ -8,6 +8,3 @@ pub stream_length-requires : goal.stream_length-requires
 stream_length-requires c =
     let a = c.args in
     omega (arith, ap length c.sector_of.ensures ∙ length-sector a.s a.img.now c.requires)
-
-pub returns : goal.returns
-returns c = (c.stream_length.ensures.0 ∙ rw c.sector_of.ensures, c.stream_length.ensures.1)

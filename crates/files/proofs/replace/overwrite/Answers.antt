@@ -1,9 +1,8 @@
 use mathlib.Core.Path.{◌∙◌}
 use Prim.Native.Nat.{◌+◌, ◌*◌}
 use native.Mathlib.Omega.{arith}
-use lib.ListN.{length, length-take, length-drop}
+use lib.ListN.{length}
 use Rattle.lists.proofs.LentParts.{wrote}
-use Rattle.lists.proofs.Walks.{over_all}
 use Rattle.files.specs.Changes.{overwritten}
 use Rattle.files.proofs.slot.SlotInUse.{used_run}
 use Rattle.files.proofs.replace.overwrite.Goals as goal
@@ -13,7 +12,7 @@ overflow_add-at c =
     let pre = c.requires in
     omega (
       arith,
-      c.start_of.ensures,
+      (rw c.entry_of.ensures at c.start.ensures.0),
       used_run _ _ _ pre.0 pre.1,
       pre.2,
     )
@@ -23,27 +22,27 @@ overflow_mul-at c =
     let pre = c.requires in
     omega (
       arith,
-      c.start_of.ensures,
+      (rw c.entry_of.ensures at c.start.ensures.0),
       used_run _ _ _ pre.0 pre.1,
       pre.2,
     )
 
-pub overflow_add-end : goal.overflow_add-end
-overflow_add-end c =
+pub overflow_add-at-2 : goal.overflow_add-at-2
+overflow_add-at-2 c =
     let pre = c.requires in
     omega (
       arith,
-      c.start_of.ensures,
+      (rw c.entry_of.ensures at c.start.ensures.0),
       used_run _ _ _ pre.0 pre.1,
       pre.2,
     )
 
-pub slice_bounds-copy_in-end : goal.slice_bounds-copy_in-end
-slice_bounds-copy_in-end c =
+pub slice_bounds-copy_from_slice-end : goal.slice_bounds-copy_from_slice-end
+slice_bounds-copy_from_slice-end c =
     let pre = c.requires in
     omega (
       arith,
-      c.start_of.ensures,
+      (rw c.entry_of.ensures at c.start.ensures.0),
       used_run _ _ _ pre.0 pre.1,
       pre.2,
     )
@@ -52,8 +51,6 @@ pub returns : goal.returns
 unfolding overwritten
 returns c =
     let a = c.args in
-    let r = c.start_of.result in
-    let at = 256 * (r + a.i) in
-    let z = wrote at (at + length a.src.now) a.img.now _ a.src.now (omega arith)
-    (c.copy_in.ensures ∙ over_all a.src.now _ (simp (length-take, length-drop) (omega arith))) (omega arith) in
-    z ∙ rw c.start_of.ensures
+    let at = 256 * (c.start.result + a.i) in
+    wrote at (at + length a.src.now) a.img.now _ a.src.now (omega arith) c.copy_from_slice.ensures.after (omega arith)
+    ∙ rw (c.start.ensures.0, c.entry_of.ensures)

@@ -4,4 +4,4 @@ use Rattle.front.proofs.desks.open.Goals as goal
 
 pub returns : goal.returns
 unfolding unpacked_desk
-returns c = rw c.unpack-luns.ensures refl
+returns c = rw c.unpack.ensures refl

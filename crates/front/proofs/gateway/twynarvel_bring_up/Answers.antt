@@ -3,4 +3,4 @@ use Rattle.front.proofs.gateway.twynarvel_bring_up.Goals as goal
 
 pub returns : goal.returns
 returns c =
-    bring_up_done _ _ c.bring_up-r.result _ _ _ _ c.empty-d.ensures c.bring_up-r.ensures c.status_of.ensures
+    bring_up_done _ _ c.bring_up.result _ _ _ _ c.empty.ensures c.bring_up.ensures c.number.ensures

@@ -17,12 +17,12 @@ carry-r-requires c =
     (inside-Within _ _ _ _ (sym c.inside.ensures ∙ c.if-not-inside.false))
 
 pub keep-requires : goal.keep-requires
-keep-requires c = c.requires.1
+keep-requires c = c.requires
 
 pub returns : goal.returns
 returns c =
-    transfer_carried _ _ _ _ _ _ _ _ _ _ c.carry-r.result _ _ _ _ _
+    transfer_carried _ _ _ _ _ _ _ _ _ c.carry-r.result _ _ _ _ _
     (sym (λ i. inside (c.start-start.ensures i) (c.end-end.ensures i) c.args.task.now c.args.shared.now) ∙ sym c.inside.ensures ∙ c.if-not-inside.false)
-    c.function.ensures c.open-d.ensures c.order_of-o.ensures
+    c.open-d.ensures c.order_of-o.ensures
     (c.span_of-p.ensures ∙ (λ i. span_of (c.start-start.ensures i) (c.end-end.ensures i)))
     c.carry-r.ensures c.keep.ensures.0 c.keep.ensures.1

@@ -15,7 +15,7 @@ pub open_segment-requires : goal.open_segment-requires
 open_segment-requires c =
     (c.requires.shaped, room_new _ c.requires.shaped _ (sym c.joins.ensures ∙ c.if-joins.false) c.requires.room, c.requires.number, omega arith)
 
-pub returns : goal.returns
-returns c =
+pub returns-else-joins : goal.returns-else-joins
+returns-else-joins c =
     rw (extended_new _ _ (sym c.joins.ensures ∙ c.if-joins.false))
     c.open_segment.ensures

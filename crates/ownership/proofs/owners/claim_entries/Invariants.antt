@@ -1,8 +1,7 @@
--- The loop's invariant: the claims of the entries in use that are left, over the marks as they are, are the claims of all.
 use mathlib.Core.Path.{◌≡◌}
 use mathlib.Core.Bool.{Bool}
 use mathlib.Core.List.{List, []}
-use Prim.Native.Nat.{ℕ, ◌≤◌, ◌-◌}
+use Prim.Native.Nat.{ℕ}
 use lib.ListN.{length}
 use Rattle.lists.specs.Lists.{flat}
 use Rattle.volume.specs.Directory.{entries}
@@ -12,10 +11,9 @@ use Rattle.ownership.specs.Owners.{owned}
 use Rattle.ownership.proofs.ClaimsFollow.{Rest}
 use Rattle.ownership.proofs.owners.claim_entries.Given as goal
 
+-- the claims of the entries in use that are left, over the marks as they are, are the claims of all
 abbrev pub invariant-loop-i : goal.invariant-loop-i
 invariant-loop-i l =
-    (l.i ≤ length l.used) × (length l.marks ≡ length l.initial.marks)
-    × ((r : Bool) (m : List ℕ) → Rest (owned l.img) (used_entries l.img) [] l.i l.marks r m → Claims (flat (owned l.img) (entries l.img)) l.initial.marks r m)
-
-abbrev pub decreases-loop-i : goal.decreases-loop-i
-decreases-loop-i l = length l.used - l.i
+    let img = l.u.volume.img.now in
+    (l.i-end ≡ length l.u.slots.now) × (length l.marks ≡ length l.initial.marks)
+    × ((r : Bool) (m : List ℕ) → Rest (owned img) (used_entries img) [] l.i l.marks r m → Claims (flat (owned img) (entries img)) l.initial.marks r m)

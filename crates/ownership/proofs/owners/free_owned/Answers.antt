@@ -3,21 +3,18 @@ use Prim.Native.Nat.{◌<◌}
 use native.Mathlib.Omega.{arith}
 use lib.ListN.{length}
 use Rattle.volume.specs.Directory.{entries, entry_at}
-use Rattle.volume.proofs.Slots.{length_entry, length-entries}
+use Rattle.volume.proofs.Slots.{length-entries}
 use Rattle.ownership.specs.Code.Held.{held_by}
 use Rattle.ownership.proofs.Freeing.{held_is_run, held_is_chain, held_is_none, freed_none, freed}
 use Rattle.ownership.proofs.OwnedRuns.{placed_entry}
 use Rattle.ownership.proofs.owners.free_owned.Goals as goal
 
-pub held_by-h-requires : goal.held_by-h-requires
-held_by-h-requires c = ap length c.entry_of.ensures ∙ length_entry _ _ c.requires.0 c.args.k c.requires.2
-
-pub free_in-requires : goal.free_in-requires
-free_in-requires c =
+pub set_run_in-requires : goal.set_run_in-requires
+set_run_in-requires c =
     let a = c.args in
     let img = a.img.now in
     let l = c.requires.0 in
-    let g = sym (c.held_by-h.ensures ∙ ap held_by c.entry_of.ensures) in
+    let g = sym (c.held_by.ensures ∙ ap held_by c.entry_of.ensures) in
     let n : a.k < length (entries img) = omega (arith, length-entries img, l.is_dirs) in
     let o = placed_entry img a.k c.requires.1 n in
     let f = held_is_run img (entry_at img a.k) a.p.t l.long o _ _ (g ∙ c.in-Run.is) in
@@ -28,7 +25,7 @@ free_chain-requires c =
     let a = c.args in
     let img = a.img.now in
     let l = c.requires.0 in
-    let g = sym (c.held_by-h.ensures ∙ ap held_by c.entry_of.ensures) in
+    let g = sym (c.held_by.ensures ∙ ap held_by c.entry_of.ensures) in
     let n : a.k < length (entries img) = omega (arith, length-entries img, l.is_dirs) in
     let o = placed_entry img a.k c.requires.1 n in
     let f = held_is_chain img (entry_at img a.k) a.p.t l.long o _ (g ∙ c.in-Chain.is) in
@@ -39,7 +36,7 @@ returns-in-Nothing c =
     let a = c.args in
     let img = a.img.now in
     let l = c.requires.0 in
-    let g = sym (c.held_by-h.ensures ∙ ap held_by c.entry_of.ensures) in
+    let g = sym (c.held_by.ensures ∙ ap held_by c.entry_of.ensures) in
     let n : a.k < length (entries img) = omega (arith, length-entries img, l.is_dirs) in
     let o = placed_entry img a.k c.requires.1 n in
     freed_none img a.p l _ (held_is_none img (entry_at img a.k) a.p.t l.long o (g ∙ c.in-Nothing.is))
@@ -49,19 +46,19 @@ returns-in-Run c =
     let a = c.args in
     let img = a.img.now in
     let l = c.requires.0 in
-    let g = sym (c.held_by-h.ensures
+    let g = sym (c.held_by.ensures
     ∙ ap held_by c.entry_of.ensures) in
     let n : a.k < length (entries img) = omega (arith, length-entries img, l.is_dirs) in
     let o = placed_entry img a.k c.requires.1 n in
     let f = held_is_run img (entry_at img a.k) a.p.t l.long o _ _ (g ∙ c.in-Run.is) in
-    freed img a.p l _ _ _ c.free_in.ensures f.1
+    freed img a.p l _ _ _ c.set_run_in.ensures f.1
 
 pub returns-in-Chain : goal.returns-in-Chain
 returns-in-Chain c =
     let a = c.args in
     let img = a.img.now in
     let l = c.requires.0 in
-    let g = sym (c.held_by-h.ensures
+    let g = sym (c.held_by.ensures
     ∙ ap held_by c.entry_of.ensures) in
     let n : a.k < length (entries img) = omega (arith, length-entries img, l.is_dirs) in
     let o = placed_entry img a.k c.requires.1 n in

@@ -1,43 +1,48 @@
-use mathlib.Core.Path.{refl, ◌∙◌, sym}
+use mathlib.Core.Path.{refl, ap, ◌∙◌, sym}
 use Prim.Native.Nat.{◌≤◌, ◌<◌}
 use native.Mathlib.Omega.{arith}
-use lib.ListN.{length}
 use borrow.Author.Rules.{rules}
+use lib.ListN.{length}
 use Rattle.ownership.specs.Blocks.{pairs, sectors_of, segments}
 use Rattle.ownership.proofs.BlockFacts.{block_facts}
 use Rattle.ownership.proofs.OwnedRuns.{segment_fits, run_segment}
 use Rattle.ownership.proofs.Freeing.{free_more, free_end}
 use Rattle.ownership.proofs.BlockTests.{pairs-length}
+use Rattle.ownership.proofs.Pairs.{pair_start, pair_length}
 use Rattle.ownership.proofs.owners.free_segments.Goals as goal
 
-pub loop-i-init : goal.loop-i-init
+pub pairs-pair-items-requires : goal.pairs-pair-items-requires
+pairs-pair-items-requires c = (search rules, (block_facts c.args.t c.args.f.now c.requires.2).few)
+
+pub loop-pair-init : goal.loop-pair-init
 unfolding sectors_of
-loop-i-init c = (search rules, omega (arith, c.segments-n.ensures.0, (block_facts c.args.t c.args.f.now c.requires.3).few), refl, refl)
+loop-pair-init c = (refl, refl)
 
-pub free_run-requires : goal.free_run-requires
-free_run-requires c =
-    let l = c.loop-i in
+pub set_run-requires : goal.set_run-requires
+set_run-requires c =
+    let l = c.loop-pair in
     let f = c.args.f.now in
-    let en = c.segments-n.ensures.0 in
-    let h : l.i < segments f = omega (arith, en) in
-    let st = c.seg_start-s.ensures.0 in
-    let ln = c.seg_length-len.ensures.0 in
-    (omega arith, (let q = segment_fits f l.i _ _ h st ln c.args.t c.requires.3 in omega arith))
+    let ps = c.pairs-pair-items.ensures.is in
+    let g : l.pair-index < length (pairs f) = omega (arith, ap length ps) in
+    let h : l.pair-index < segments f = omega (arith, pairs-length f) in
+    let st = pair_start f _ l.pair-index _ _ ps (omega arith) c.of-start.ensures.start in
+    let ln = pair_length f _ l.pair-index _ _ ps (omega arith) c.of-start.ensures.length in
+    (l.invariant.0 ∙ c.requires.0, (let q = segment_fits f l.pair-index _ _ h st ln c.args.t c.requires.2 in omega arith))
 
-pub loop-i-preserved : goal.loop-i-preserved
-loop-i-preserved c =
-    let l = c.loop-i in
+pub loop-pair-preserved : goal.loop-pair-preserved
+loop-pair-preserved c =
+    let l = c.loop-pair in
     let f = c.args.f.now in
-    let en = c.segments-n.ensures.0 in
-    let h : l.i < segments f = omega (arith, en) in
-    let st = c.seg_start-s.ensures.0 in
-    let ln = c.seg_length-len.ensures.0 in
-    let g : l.i < length (pairs f) = omega (arith, pairs-length f) in
-    (omega arith, omega arith, c.free_run.auto.sat ∙ l.invariant.2, l.invariant.3 ∙ free_more 0 _ (pairs f) l.i _ g (run_segment f l.i _ _ h st ln) ∙ rw c.free_run.ensures)
+    let ps = c.pairs-pair-items.ensures.is in
+    let g : l.pair-index < length (pairs f) = omega (arith, ap length ps) in
+    let h : l.pair-index < segments f = omega (arith, pairs-length f) in
+    let st = pair_start f _ l.pair-index _ _ ps (omega arith) c.of-start.ensures.start in
+    let ln = pair_length f _ l.pair-index _ _ ps (omega arith) c.of-start.ensures.length in
+    (c.set_run.auto.sat ∙ l.invariant.0, l.invariant.1 ∙ free_more 0 _ (pairs f) l.pair-index _ g (run_segment f l.pair-index _ _ h st ln) ∙ rw c.set_run.ensures)
 
 pub returns : goal.returns
 returns c =
-    let l = c.loop-i in
+    let l = c.loop-pair in
     let f = c.args.f.now in
-    let g : length (pairs f) ≤ l.i = omega (arith, pairs-length f, c.segments-n.ensures.0) in
-    sym (l.invariant.3 ∙ free_end 0 _ (pairs f) l.i g)
+    let g : length (pairs f) ≤ l.pair-index = omega (arith, ap length c.pairs-pair-items.ensures.is) in
+    sym (l.invariant.1 ∙ free_end 0 _ (pairs f) l.pair-index g)

@@ -12,27 +12,27 @@ write_chunk-requires c =
     let loop = c.loop-i in
     let a = c.args in
     let l = loop in
-    let r = c.least.result in
+    let r = c.min.result in
     let z : l.i + r - l.i ≡ r = omega arith in
     let t = turn_asks a.map.now a.from a.src.now a.img.now l.img l.i c.requires.0 c.requires.1 c.requires.2 l.invariant.2 r
-    (omega (arith, c.least.ensures)) (omega arith) (omega (arith, c.least.ensures)) in
-    (omega (arith, c.wide16-s.ensures.0, t.0), rw z t.1)
+    (omega (arith, c.min.ensures)) (omega arith) (omega (arith, c.min.ensures)) in
+    (omega (arith, c.from.ensures, t.0), rw z t.1)
 
 pub loop-i-smaller : goal.loop-i-smaller
-loop-i-smaller c = omega (arith, c.least.ensures)
+loop-i-smaller c = omega (arith, c.min.ensures)
 
 pub loop-i-preserved : goal.loop-i-preserved
 loop-i-preserved c =
     let loop = c.loop-i in
     let a = c.args in
     let l = loop in
-    let r = c.least.result in
+    let r = c.min.result in
     let z : l.i + r - l.i ≡ r = omega arith in
     let w = Wrote-more a.map.now a.from a.src.now a.img.now l.img l.i c.requires.0 c.requires.1 c.requires.2 l.invariant.2 r
-    (omega (arith, c.least.ensures)) (omega arith)
-    (omega (arith, c.least.ensures)) in
-    let e = rw (z, c.wide16-s.ensures.0) at c.write_chunk.ensures in
-    (omega (arith, c.least.ensures), c.write_chunk.auto.img ∙ l.invariant.1, rw e w)
+    (omega (arith, c.min.ensures)) (omega arith)
+    (omega (arith, c.min.ensures)) in
+    let e = rw (z, c.from.ensures) at c.write_chunk.ensures in
+    (omega (arith, c.min.ensures), c.write_chunk.auto.img ∙ l.invariant.1, rw e w)
 
 pub returns : goal.returns
 returns c =

@@ -1,28 +1,14 @@
-use mathlib.Core.Path.{refl, sym, ◌∙◌}
-use native.Mathlib.Omega.{arith}
-use borrow.Author.Tests.{le-ltb, lt-ltb}
-use borrow.Author.Rules.{rules}
-use Rattle.lists.proofs.Walks.{all_stop, all_more, all_end}
-use Rattle.text.specs.Packing.{is_text}
+use mathlib.Core.Path.{sym, ◌∙◌}
+use lib.Dec.{ltb}
+use Rattle.std.proofs.Common.{rules, tests}
+use Rattle.std.proofs.lemmas.Iterator.{YieldsList-from_slice}
+use Rattle.std.proofs.lemmas.Iterator.Search.{all_from_yields_List}
+use Rattle.lists.proofs.Iterators.{all_is}
+use Rattle.text.specs.Packing.{is_text, mark}
 use Rattle.text.proofs.packing.is_text.Goals as goal
-
-pub loop-i-init : goal.loop-i-init
-loop-i-init c = (search rules, refl)
-
-pub returns-then-bytes-i-ge-MARK : goal.returns-then-bytes-i-ge-MARK
-unfolding is_text
-returns-then-bytes-i-ge-MARK c =
-    let l = c.loop-i in
-    sym (l.invariant.1 ∙ all_stop _ _ 0 l.i (omega arith) (le-ltb _ _ c.if-bytes-i-ge-MARK.true))
-
-pub loop-i-preserved : goal.loop-i-preserved
-unfolding is_text
-loop-i-preserved c =
-    let l = c.loop-i in
-    (omega arith, l.invariant.1 ∙ all_more _ _ 0 l.i (omega arith) (lt-ltb _ _ c.if-bytes-i-ge-MARK.false))
 
 pub returns : goal.returns
 unfolding is_text
 returns c =
-    let l = c.loop-i in
-    sym (l.invariant.1 ∙ all_end _ _ l.i (omega arith))
+    all_from_yields_List (λ b. ltb b mark) _ _ _ c.all.ensures.ran (YieldsList-from_slice c.args.bytes.now cc) (λ x b q k. search (rules, tests))
+    ∙ sym (all_is _ _)

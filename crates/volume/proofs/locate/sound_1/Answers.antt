@@ -1,14 +1,21 @@
 -- Point 1 in another order: the length first, since the trailer can be read only then.
-use mathlib.Core.Path.{sym, ◌∙◌, ap, ◌≡◌}
+use mathlib.Core.Path.{sym, ◌∙◌, ◌≡◌}
 use native.Mathlib.Omega.{arith}
-use lib.ListN.{length}
+use mathlib.Core.Bool.{Bool, true, false}
+use Rattle.lists.specs.Lists.{◌and◌}
 use Rattle.lists.specs.Parts.{sectors}
-use Rattle.lists.proofs.LentParts.{length-sector}
-use Rattle.lists.proofs.Bools.{and_of}
 use Rattle.volume.specs.Volume.{trailer}
 use Rattle.volume.specs.Code.Located.{dirs_test}
 use Rattle.volume.proofs.Located.{not_sized, sized_facts, not_trailer, to_dir_in, sound1_rest}
 use Rattle.volume.proofs.locate.sound_1.Goals as goal
+
+true_first : (a b : Bool) → a ≡ true → a and b ≡ b
+unfolding ◌and◌
+true_first a b h = rw h
+
+false_first : (a b : Bool) → a ≡ false → a and b ≡ false
+unfolding ◌and◌
+false_first a b h = rw h
 
 pub returns-then-not-sized : goal.returns-then-not-sized
 returns-then-not-sized c = sym (not_sized _ (sym c.sized.ensures ∙ c.if-not-sized.true))
@@ -29,15 +36,6 @@ sector_of-tr-requires c =
     let f = sized_facts img hs in
     omega arith
 
-pub trailer_good-requires : goal.trailer_good-requires
-unfolding sectors
-trailer_good-requires c =
-    let args = c.args in
-    let img = args.img.now in
-    let hs = sym c.sized.ensures ∙ c.if-not-sized.false in
-    let f = sized_facts img hs in
-    ap length c.sector_of-tr.ensures ∙ length-sector _ img (omega arith)
-
 pub returns-then-not-trailer_good : goal.returns-then-not-trailer_good
 unfolding sectors trailer
 returns-then-not-trailer_good c =
@@ -55,7 +53,6 @@ dirs_good-requires c =
     let img = args.img.now in
     let hs = sym c.sized.ensures ∙ c.if-not-sized.false in
     let f = sized_facts img hs in (
-      ap length c.sector_of-tr.ensures ∙ length-sector _ img (omega arith),
       omega arith,
       to_dir_in (sectors img) c.sector_of-tr.result.now (sym c.trailer_good.ensures ∙ c.if-not-trailer_good.false),
     )
@@ -69,14 +66,20 @@ slice_bounds-volume_id-end c =
     let f = sized_facts img hs in
     omega arith
 
-pub returns : goal.returns
-unfolding sectors trailer
-returns c =
-    let args = c.args in
-    let img = args.img.now in
+pub returns-then-dirs_good : goal.returns-then-dirs_good
+unfolding sectors trailer ◌and◌
+returns-then-dirs_good c =
+    let img = c.args.img.now in
     let hs = sym c.sized.ensures ∙ c.if-not-sized.false in
-    let f = sized_facts img hs in
     let te : c.sector_of-tr.result.now ≡ trailer img = c.sector_of-tr.ensures in
-    and_of {x =
-    dirs_test (sectors img) (trailer img)} (rw te at c.dirs_good.ensures) c.volume_id.ensures
-    ∙ sound1_rest img hs (rw te at (sym c.trailer_good.ensures ∙ c.if-not-trailer_good.false))
+    let d : dirs_test (sectors img) (trailer img) ≡ true = rw te at (sym c.dirs_good.ensures ∙ c.if-dirs_good.true) in
+    c.volume_id.ensures ∙ sym (true_first _ _ d) ∙ sound1_rest img hs (rw te at (sym c.trailer_good.ensures ∙ c.if-not-trailer_good.false))
+
+pub returns-else-dirs_good : goal.returns-else-dirs_good
+unfolding sectors trailer ◌and◌
+returns-else-dirs_good c =
+    let img = c.args.img.now in
+    let hs = sym c.sized.ensures ∙ c.if-not-sized.false in
+    let te : c.sector_of-tr.result.now ≡ trailer img = c.sector_of-tr.ensures in
+    let d : dirs_test (sectors img) (trailer img) ≡ false = rw te at (sym c.dirs_good.ensures ∙ c.if-dirs_good.false) in
+    c.if-dirs_good.false ∙ sym (false_first _ _ d) ∙ sound1_rest img hs (rw te at (sym c.trailer_good.ensures ∙ c.if-not-trailer_good.false))

@@ -1,24 +1,11 @@
-use mathlib.Core.Path.{refl, sym, ◌∙◌}
-use native.Mathlib.Omega.{arith}
-use borrow.Author.Rules.{rules}
-use borrow.Author.Tests.{ne_eqb, eq-eqb}
-use Rattle.lists.proofs.Walks.{all_stop, all_more, all_end}
+use Rattle.std.proofs.Common.{ℕ, ◌∙◌, sym, rules, tests, eqb}
+use Rattle.std.proofs.lemmas.Iterator.{YieldsList-from_slice}
+use Rattle.std.proofs.lemmas.Iterator.Search.{all_from_yields_List}
+use Rattle.lists.proofs.Iterators.{all_is}
 use Rattle.volume.proofs.names.all_spaces.Goals as goal
-
-pub loop-i-init : goal.loop-i-init
-loop-i-init c = (search rules, refl)
-
-pub returns-then-s-i-ne32 : goal.returns-then-s-i-ne32
-returns-then-s-i-ne32 c =
-    let l = c.loop-i in
-    sym (l.invariant.1 ∙ all_stop _ _ 0 l.i (omega arith) (ne_eqb _ _ c.if-s-i-ne32.true))
-
-pub loop-i-preserved : goal.loop-i-preserved
-loop-i-preserved c =
-    let l = c.loop-i in
-    (omega arith, l.invariant.1 ∙ all_more _ _ 0 l.i (omega arith) (eq-eqb _ _ c.if-s-i-ne32.false))
 
 pub returns : goal.returns
 returns c =
-    let l = c.loop-i in
-    sym (l.invariant.1 ∙ all_end _ _ l.i (omega arith))
+    all_from_yields_List (λ (x : ℕ). eqb x 32) _ _ c.all.result c.all.ensures.ran (YieldsList-from_slice c.args.s.now cc)
+    (λ x b q k. search (rules, tests))
+    ∙ sym (all_is (λ (x : ℕ). eqb x 32) c.args.s.now)

@@ -19,13 +19,13 @@ pub overflow_shl-rows : goal.overflow_shl-rows
 overflow_shl-rows c =
     let l = c.loop-m in
     let n = c.args.n in
-    omega (arith, l.invariant.0, c.lesser-s.ensures, min-le_right l.m (n - l.m))
+    omega (arith, l.invariant.0, c.min-s.ensures, min-le_right l.m (n - l.m))
 
 pub overflow_add-m : goal.overflow_add-m
 overflow_add-m c =
     let l = c.loop-m in
     let n = c.args.n in
-    record { fits = omega (arith, l.invariant.1, c.lesser-s.ensures, min-le_right l.m (n - l.m)) }
+    record { fits = omega (arith, l.invariant.1, c.min-s.ensures, min-le_right l.m (n - l.m)) }
 
 pub loop-m-smaller : goal.loop-m-smaller
 loop-m-smaller c =
@@ -38,8 +38,8 @@ pub loop-m-preserved : goal.loop-m-preserved
 loop-m-preserved c =
     let l = c.loop-m in
     let n = c.args.n in
-    let e = c.lesser-s.ensures in
-    let s = c.lesser-s.result in
+    let e = c.min-s.ensures in
+    let s = c.min-s.result in
     let a : s ≤ l.m = omega (arith, e, min-le_left l.m (n - l.m)) in
     let b : s ≤ n - l.m = omega (arith, e, min-le_right l.m (n - l.m)) in
     (omega arith, omega arith, lt_of_le_of_lt (and_le_l _ _) l.invariant.2, (λ k h. row_join _ _ _ l.invariant.0 l.invariant.3 s k a h))

@@ -1,6 +1,7 @@
-use Rattle.volume.specs.Code.Searches.{quad}
+use mathlib.Core.Path.{◌∙◌}
+use native.Mathlib.Omega.{arith}
+use Rattle.volume.proofs.Searches.QuadBytes.{quad_is}
 use Rattle.volume.proofs.quads.quad_at.Goals as goal
 
 pub returns : goal.returns
-unfolding quad
-returns c = rw (c.long_at.ensures.0, c.long_at-2.ensures.0)
+returns c = c.from_be_bytes.ensures ∙ rw c.as_chunks.ensures.front (quad_is c.args.sat.now _ c.args.q (omega arith))

@@ -14,9 +14,8 @@ loop-i-init c = (omega arith, omega arith, (λ s l g. absurd (omega arith)))
 pub returns-then-k-lt8 : goal.returns-then-k-lt8
 returns-then-k-lt8 c =
     let l = c.loop-i in
-    let given = c.type_inv.sat in
     let e = c.first_clear-k.ensures in
-    c.lesser.ensures ∙ stops _ (λ i. (given i).fits) _ _ e _ l.invariant.0 l.invariant.2 _ (omega arith) c.if-k-lt8.true
+    c.min.ensures ∙ stops _ c.fits-sat _ _ e _ l.invariant.0 l.invariant.2 _ (omega arith) c.if-k-lt8.true
 
 pub overflow_mul-i : goal.overflow_mul-i
 overflow_mul-i c = record { fits = omega (arith, c.past_quads-i.ensures.to) }
@@ -27,10 +26,9 @@ loop-i-smaller c = omega (arith, c.past_quads-i.ensures.from)
 pub loop-i-preserved : goal.loop-i-preserved
 loop-i-preserved c =
     let l = c.loop-i in
-    let given = c.type_inv.sat in
     let e = c.first_clear-k.ensures in
     let p = c.past_quads-i.ensures in
-    (omega (arith, p.from), l.invariant.1, goes_on _ (λ i. (given i).fits) _ _ e _ l.invariant.0 l.invariant.2 _ c.if-k-lt8.false p)
+    (omega (arith, p.from), l.invariant.1, goes_on _ c.fits-sat _ _ e _ l.invariant.0 l.invariant.2 _ c.if-k-lt8.false p)
 
 pub returns : goal.returns
 returns c =

@@ -14,6 +14,7 @@ use Rattle.volume.specs.Volume.{in_range}
 use Rattle.work.specs.Refusals.{ruled}
 use Rattle.work.specs.Volumes.{format_rules}
 use Rattle.work.specs.Code.Deeds.{done_by, format_deed, quiet}
+use Rattle.work.proofs.Quiet.{none_moved}
 use Rattle.work.proofs.formatting.format.Goals as goal
 
 pub returns-then-not-formattable : goal.returns-then-not-formattable
@@ -42,4 +43,4 @@ format-requires c = asks _ _ _ (sym c.formattable.ensures ∙ c.if-not-formattab
 
 pub returns : goal.returns
 unfolding format_deed format_rules quiet done_by ruled
-returns c = rw (c.format.ensures, sym c.formattable.ensures ∙ c.if-not-formattable.false)
+returns c = rw (none_moved c.default.result c.default.ensures, c.format.ensures, sym c.formattable.ensures ∙ c.if-not-formattable.false)

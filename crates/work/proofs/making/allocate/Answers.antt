@@ -1,11 +1,10 @@
 use mathlib.Core.Path.{sym, ◌∙◌, ◌≡◌, ap}
-use mathlib.Core.Bool.{true, ◌&&◌}
+use mathlib.Core.Bool.{true}
 use Prim.Native.Nat.{ℕ}
 use native.Mathlib.Omega.{arith}
 use borrow.Author.Tests.{lt-ltb, le-ltb}
 use Rattle.lists.specs.Lists.{◌and◌}
 use Rattle.lists.specs.Parts.{word}
-use Rattle.lists.proofs.Bools.{and_of}
 use Rattle.lists.proofs.Tests.{and_left, and_right}
 use Rattle.volume.specs.Names.{descriptor, user_of}
 use Rattle.volume.specs.Directory.{code_allowed}
@@ -14,7 +13,8 @@ use Rattle.files.specs.Rights.{has_right}
 use Rattle.work.specs.Refusals.{ruled}
 use Rattle.work.specs.Volumes.{allocate_rules, sized, exists}
 use Rattle.work.specs.Code.Deeds.{done_by, allocate_deed, place_deed}
-use Rattle.work.proofs.Searches.{some_found, none_found}
+use Rattle.std.specs.Prelude.{is_some}
+use Rattle.work.proofs.Searches.{is_some_found}
 use Rattle.work.proofs.making.allocate.Goals as goal
 
 pub returns-then-not-descriptor : goal.returns-then-not-descriptor
@@ -34,37 +34,37 @@ user_of-user-requires c =
     sym c.descriptor.ensures ∙ c.if-not-descriptor.false in
     omega (arith, descriptor-length _ described)
 
-pub returns-then-not-sized-code_allowed : goal.returns-then-not-sized-code_allowed
+pub returns-then-not-are_in_range : goal.returns-then-not-are_in_range
 unfolding allocate_deed allocate_rules done_by ruled
-returns-then-not-sized-code_allowed c =
+returns-then-not-are_in_range c =
     let described : descriptor c.args.desc.now ≡ true =
     sym c.descriptor.ensures ∙ c.if-not-descriptor.false in
-    let ranged : (let a = c.args in c.sized.result && c.code_allowed.result ≡ sized a.kind a.size a.«record» and code_allowed (user_of a.desc.now) a.read_code) =
-    and_of c.sized.ensures (c.code_allowed.ensures ∙ ap (λ (n : ℕ). code_allowed n c.args.read_code) c.user_of-user.ensures.0) in
-    rw (described, le-ltb _ _ c.if-kind-gt1.false, sym ranged ∙ c.if-not-sized-code_allowed.true)
+    let ranged : (let a = c.args in c.are_in_range.result ≡ sized a.kind a.size a.«record» and code_allowed (user_of a.desc.now) a.read_code) =
+    c.are_in_range.ensures ∙ (let a = c.args in ap (λ (n : ℕ). sized a.kind a.size a.«record» and code_allowed n a.read_code) c.user_of-user.ensures.0) in
+    rw (described, le-ltb _ _ c.if-kind-gt1.false, sym ranged ∙ c.if-not-are_in_range.true)
 
 pub returns-then-not-has_right : goal.returns-then-not-has_right
 unfolding allocate_deed allocate_rules done_by ruled
 returns-then-not-has_right c =
     let described : descriptor c.args.desc.now ≡ true =
     sym c.descriptor.ensures ∙ c.if-not-descriptor.false in
-    let ranged : (let a = c.args in c.sized.result && c.code_allowed.result ≡ sized a.kind a.size a.«record» and code_allowed (user_of a.desc.now) a.read_code) =
-    and_of c.sized.ensures (c.code_allowed.ensures ∙ ap (λ (n : ℕ). code_allowed n c.args.read_code) c.user_of-user.ensures.0) in
+    let ranged : (let a = c.args in c.are_in_range.result ≡ sized a.kind a.size a.«record» and code_allowed (user_of a.desc.now) a.read_code) =
+    c.are_in_range.ensures ∙ (let a = c.args in ap (λ (n : ℕ). sized a.kind a.size a.«record» and code_allowed n a.read_code) c.user_of-user.ensures.0) in
     let fits : (let a = c.args in sized a.kind a.size a.«record» and code_allowed (user_of a.desc.now) a.read_code ≡ true) =
-    sym ranged ∙ c.if-not-sized-code_allowed.false in
+    sym ranged ∙ c.if-not-are_in_range.false in
     let righted : has_right c.args.caller (word c.args.desc.now 0) ≡ c.has_right.result =
     sym (c.has_right.ensures ∙ ap (has_right c.args.caller) c.user_of-user.ensures.0) in
     rw (described, le-ltb _ _ c.if-kind-gt1.false, fits, righted ∙ c.if-not-has_right.true)
 
-pub returns-in_default : goal.returns-in_default
+pub returns-then-is_some : goal.returns-then-is_some
 unfolding allocate_deed allocate_rules exists done_by ruled
-returns-in_default c =
+returns-then-is_some c =
     let described : descriptor c.args.desc.now ≡ true =
     sym c.descriptor.ensures ∙ c.if-not-descriptor.false in
-    let ranged : (let a = c.args in c.sized.result && c.code_allowed.result ≡ sized a.kind a.size a.«record» and code_allowed (user_of a.desc.now) a.read_code) =
-    and_of c.sized.ensures (c.code_allowed.ensures ∙ ap (λ (n : ℕ). code_allowed n c.args.read_code) c.user_of-user.ensures.0) in
+    let ranged : (let a = c.args in c.are_in_range.result ≡ sized a.kind a.size a.«record» and code_allowed (user_of a.desc.now) a.read_code) =
+    c.are_in_range.ensures ∙ (let a = c.args in ap (λ (n : ℕ). sized a.kind a.size a.«record» and code_allowed n a.read_code) c.user_of-user.ensures.0) in
     let fits : (let a = c.args in sized a.kind a.size a.«record» and code_allowed (user_of a.desc.now) a.read_code ≡ true) =
-    sym ranged ∙ c.if-not-sized-code_allowed.false in
+    sym ranged ∙ c.if-not-are_in_range.false in
     let righted : has_right c.args.caller (word c.args.desc.now 0) ≡ c.has_right.result =
     sym (c.has_right.ensures ∙ ap (has_right c.args.caller) c.user_of-user.ensures.0) in
     rw (
@@ -72,7 +72,7 @@ returns-in_default c =
       le-ltb _ _ c.if-kind-gt1.false,
       fits,
       righted ∙ c.if-not-has_right.false,
-      some_found _ _ c.requires.0 _ _ (sym c.find.ensures ∙ c.in_default.is),
+      sym (is_some_found _ _ c.requires.0 _) ∙ ap is_some (sym c.find.ensures) ∙ sym c.is_some.ensures ∙ c.if-is_some.true,
     )
 
 pub place-requires : goal.place-requires
@@ -80,11 +80,11 @@ unfolding exists
 place-requires c =
     let described : descriptor c.args.desc.now ≡ true =
     sym c.descriptor.ensures ∙ c.if-not-descriptor.false in
-    let ranged : (let a = c.args in c.sized.result && c.code_allowed.result ≡ sized a.kind a.size a.«record» and code_allowed (user_of a.desc.now) a.read_code) =
-    and_of c.sized.ensures (c.code_allowed.ensures ∙ ap (λ (n : ℕ). code_allowed n c.args.read_code) c.user_of-user.ensures.0) in
+    let ranged : (let a = c.args in c.are_in_range.result ≡ sized a.kind a.size a.«record» and code_allowed (user_of a.desc.now) a.read_code) =
+    c.are_in_range.ensures ∙ (let a = c.args in ap (λ (n : ℕ). sized a.kind a.size a.«record» and code_allowed n a.read_code) c.user_of-user.ensures.0) in
     let fits : (let a = c.args in sized a.kind a.size a.«record» and code_allowed (user_of a.desc.now) a.read_code ≡ true) =
-    sym ranged ∙ c.if-not-sized-code_allowed.false in
-    let new = none_found _ _ c.requires.0 _ (sym c.find.ensures ∙ c.in-Nothing.is) in
+    sym ranged ∙ c.if-not-are_in_range.false in
+    let new = sym (is_some_found _ _ c.requires.0 _) ∙ ap is_some (sym c.find.ensures) ∙ sym c.is_some.ensures ∙ c.if-is_some.false in
     (c.requires.0, c.requires.1, described, new, c.if-kind-gt1.false, and_left _ _ fits, and_right _ _ fits)
 
 pub returns : goal.returns
@@ -92,10 +92,10 @@ unfolding allocate_deed place_deed allocate_rules exists done_by ruled
 returns c =
     let described : descriptor c.args.desc.now ≡ true =
     sym c.descriptor.ensures ∙ c.if-not-descriptor.false in
-    let ranged : (let a = c.args in c.sized.result && c.code_allowed.result ≡ sized a.kind a.size a.«record» and code_allowed (user_of a.desc.now) a.read_code) =
-    and_of c.sized.ensures (c.code_allowed.ensures ∙ ap (λ (n : ℕ). code_allowed n c.args.read_code) c.user_of-user.ensures.0) in
+    let ranged : (let a = c.args in c.are_in_range.result ≡ sized a.kind a.size a.«record» and code_allowed (user_of a.desc.now) a.read_code) =
+    c.are_in_range.ensures ∙ (let a = c.args in ap (λ (n : ℕ). sized a.kind a.size a.«record» and code_allowed n a.read_code) c.user_of-user.ensures.0) in
     let fits : (let a = c.args in sized a.kind a.size a.«record» and code_allowed (user_of a.desc.now) a.read_code ≡ true) =
-    sym ranged ∙ c.if-not-sized-code_allowed.false in
+    sym ranged ∙ c.if-not-are_in_range.false in
     let righted : has_right c.args.caller (word c.args.desc.now 0) ≡ c.has_right.result =
     sym (c.has_right.ensures ∙ ap (has_right c.args.caller) c.user_of-user.ensures.0) in
     c.place.ensures
@@ -104,5 +104,5 @@ returns c =
       le-ltb _ _ c.if-kind-gt1.false,
       fits,
       righted ∙ c.if-not-has_right.false,
-      none_found _ _ c.requires.0 _ (sym c.find.ensures ∙ c.in-Nothing.is),
+      sym (is_some_found _ _ c.requires.0 _) ∙ ap is_some (sym c.find.ensures) ∙ sym c.is_some.ensures ∙ c.if-is_some.false,
     )

@@ -19,7 +19,7 @@ pub crosses-requires : goal.crosses-requires
 crosses-requires c =
     let whole : odd_length (length c.args.«data».now) ≡ false =
     sym c.odd_length.ensures ∙ c.if-odd_length.false in
-    (omega (arith, c.sectors_in.ensures, run_few _ _ _ c.requires.0 c.requires.1), (odd_few _ whole).0)
+    (omega (arith, rw c.entry_of.ensures at c.size.ensures.0, run_few _ _ _ c.requires.0 c.requires.1), (odd_few _ whole).0)
 
 pub returns-then-crosses : goal.returns-then-crosses
 returns-then-crosses c =
@@ -27,7 +27,7 @@ returns-then-crosses c =
     sym c.odd_length.ensures ∙ c.if-odd_length.false in
     let crossed : (let a = c.args in
     crosses (size (entry_at a.image.now a.slot)) a.i (length a.«data».now / 256) ≡ c.crosses.result) =
-    rw (← c.sectors_in.ensures) (sym c.crosses.ensures) in
+    rw (← (rw c.entry_of.ensures at c.size.ensures.0)) (sym c.crosses.ensures) in
     run_crosses _ _ _ _ c.requires.1 whole (crossed ∙ c.if-crosses.true)
 
 pub overwrite-requires : goal.overwrite-requires
@@ -36,7 +36,7 @@ overwrite-requires c =
     sym c.odd_length.ensures ∙ c.if-odd_length.false in
     let crossed : (let a = c.args in
     crosses (size (entry_at a.image.now a.slot)) a.i (length a.«data».now / 256) ≡ c.crosses.result) =
-    rw (← c.sectors_in.ensures) (sym c.crosses.ensures) in
+    rw (← (rw c.entry_of.ensures at c.size.ensures.0)) (sym c.crosses.ensures) in
     (c.requires.0, c.requires.1, run_bytes _ _ _ whole (crossed ∙ c.if-crosses.false))
 
 pub overflow_cast-result : goal.overflow_cast-result
@@ -49,7 +49,7 @@ pub overflow_cast-result-2 : goal.overflow_cast-result-2
 overflow_cast-result-2 c =
     let crossed : (let a = c.args in
     crosses (size (entry_at a.image.now a.slot)) a.i (length a.«data».now / 256) ≡ c.crosses.result) =
-    rw (← c.sectors_in.ensures) (sym c.crosses.ensures) in
+    rw (← (rw c.entry_of.ensures at c.size.ensures.0)) (sym c.crosses.ensures) in
     omega (arith, run_start _ _ _ (crossed ∙ c.if-crosses.false), run_few _ _ _ c.requires.0 c.requires.1)
 
 pub overflow_cast-result-3 : goal.overflow_cast-result-3
@@ -64,6 +64,6 @@ returns c =
     sym c.odd_length.ensures ∙ c.if-odd_length.false in
     let crossed : (let a = c.args in
     crosses (size (entry_at a.image.now a.slot)) a.i (length a.«data».now / 256) ≡ c.crosses.result) =
-    rw (← c.sectors_in.ensures) (sym c.crosses.ensures) in
+    rw (← (rw c.entry_of.ensures at c.size.ensures.0)) (sym c.crosses.ensures) in
     rw c.overwrite.ensures
     (run_written _ _ _ _ c.requires.1 whole (crossed ∙ c.if-crosses.false))

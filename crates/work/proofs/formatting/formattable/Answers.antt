@@ -1,8 +1,0 @@
-use mathlib.Core.Path.{refl}
-use Rattle.lists.specs.Parts.{sectors}
-use Rattle.lists.proofs.Bools.{and_of}
-use Rattle.work.proofs.formatting.formattable.Goals as goal
-
-pub returns : goal.returns
-unfolding sectors
-returns c = and_of (and_of refl c.in_range.ensures) c.volume_id.ensures
