@@ -14,8 +14,8 @@ use crate::holders::{Table, fill_holders, highest, number_of};
 use crate::{Compacted, Ending};
 use lists::parts::sector_of;
 use moves::relocation::relocate;
-use moves::rerouting::NoSegment;
 use numbers::MOST_SECTORS;
+use ownership::blocks::NoSegment;
 use volume::directory::{entry_of, start};
 use volume::locate::Layout;
 use volume::mount::Volume;
@@ -45,6 +45,7 @@ fn advance(
     let i = number_in(img, p, k, hi);
     relocate(img, p, k, i, hi, lo)?;
     who[lo] = b;
+    // Stays: `as`, here and below: there are 64 slots at most.
     who[hi] = (8 * p.dirs) as u8;
     Ok(())
 }

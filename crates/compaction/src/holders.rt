@@ -51,6 +51,7 @@ pub fn fill_holders(who: &mut Table, v: &Volume<'_>)
     ensures { Holders v.now.img.now who.new }
 {
     let slots = 8 * v.p.dirs;
+    // Stays: `as`: there are 64 slots at most.
     who.fill(slots as u8);
     for k in (0..slots).rev() {
         give_entry(who, v, v.entry(k), k as u8);

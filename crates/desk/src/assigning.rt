@@ -16,6 +16,7 @@ use luns::fits::reads_by_right;
 use luns::{Lun, Mode, Place};
 use std::convert::TryFrom;
 use volume::locate::Layout;
+use volume::mount::Volume;
 use volume::names::user_of;
 use work::Refusal;
 use work::finding::seek;
@@ -33,6 +34,7 @@ fn start_of(image: &[u8], p: Layout, slot: usize, mode: Mode, at_end: bool) -> P
     if n == 0 {
         return Place::Fresh;
     }
+    // Stays: `as`, here and below: the numbers fit, as is proved, and u32 has no From<usize>.
     let last = (n - 1) as u32;
     Place::At { i: last, n: 1 }
 }
@@ -61,8 +63,7 @@ fn seat_of(
     }
 }
 
-// Stays: caller, LUN, kind, mode, selector, sizes and quota are any numbers, as C hands them over and as the definition `Call` of
-// specs/Calls has them.
+// Stays: caller, LUN and mode are any numbers, as C hands them over and as the definition `Call` of specs/Calls has them.
 impl Desk {
     // The right to read, the right to write, and modes that agree: then the LUN is taken.
     #[tactic(auto, using(lists::proofs::Steps::bool_steps), unfolding(crate::specs::Code::Left::seat_left, crate::specs::Calls::seat_rules, crate::specs::Calls::quietly, crate::specs::Answers::judged, work::specs::Refusals::ruled))]
@@ -71,7 +72,7 @@ impl Desk {
         ensures { outcome result image.now self.new []
             ≡ seat_left (state image.now self.old) caller owner lun u }
     {
-        if !reads_by_right(image, p, u) {
+        if !reads_by_right(&Volume { img: image, p }, u) {
             return Err(Refusal::WrongCode);
         }
         if u.mode.writes() && !has_right(caller, owner) || !u.agrees_from(&self.luns, 0) {
@@ -118,7 +119,7 @@ impl Desk {
         let Ok(mode) = Mode::try_from(mode) else {
             return Err(Refusal::UnknownType);
         };
-        let slot = seek(image, p, desc)?;
+        let slot = seek(&Volume { img: image, p }, desc)?;
         let owner = user_of(desc) as u32;
         let u = seat_of(image, p, caller, slot, mode, at_end, offered);
         self.seat(image, p, caller, owner, lun, u)

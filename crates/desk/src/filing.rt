@@ -13,12 +13,12 @@ use files::rights::has_right;
 use luns::holding::is_held;
 use numbers::LAST_USER;
 use volume::locate::Layout;
+use volume::mount::Volume;
 use volume::names::user_of;
 use work::finding::seek;
 use work::{Refusal, making};
 
-// Stays: caller, LUN, kind, mode, selector, sizes and quota are any numbers, as C hands them over and as the definition `Call` of
-// specs/Calls has them.
+// Stays: caller, kind, sizes and code are any numbers, as C hands them over and as the definition `Call` of specs/Calls has them.
 impl Desk {
     /// Makes a file of kind 0, contiguous, of this size, or of kind 1, sequential, of this record length, 0 for variable ones,
     /// with this read-protect code. Refuses a volume that is not sound or a desk that does not fit, then the caller, the descriptor, the
@@ -60,6 +60,7 @@ impl Desk {
             p,
             caller,
             desc,
+            // Stays: `as`, here and below: usize has no From<u32>, and it holds them all.
             kind as usize,
             size as usize,
             record as usize,
@@ -99,7 +100,7 @@ impl Desk {
             result image.new self.now [] }
     {
         let p = self.begin(image, caller <= LAST_USER)?;
-        let slot = seek(image, p, desc)?;
+        let slot = seek(&Volume { img: image, p }, desc)?;
         self.remove(image, p, caller, desc, slot)
     }
 }

@@ -10,6 +10,7 @@ use luns::fits::fits;
 use luns::places::{placeless, target};
 use luns::{Lun, Mode};
 use volume::locate::Layout;
+use volume::mount::Volume;
 use work::Refusal;
 
 /// What a transfer aims at: the volume's layout, the directory slot of its file, and the record or sector.
@@ -37,6 +38,7 @@ fn aim_at(p: Layout, u: Lun, sel: u32, num: u32, writing: bool) -> Result<Aim, R
     }
     Ok(Aim {
         p,
+        // Stays: `as`: usize has no From<u32>, and it holds them all.
         slot: u.slot as usize,
         i: target(sel, num, u.place),
     })
@@ -50,7 +52,7 @@ impl Desk {
         let Some(p) = locate_sound(image) else {
             return Err(Refusal::NotSound);
         };
-        if !fits(image, p, &self.luns) {
+        if !fits(&Volume { img: image, p }, &self.luns) {
             return Err(Refusal::NotSound);
         }
         if !fine {

@@ -25,6 +25,7 @@ impl Desk {
         requires { lun < lun_count }
         ensures { result ≡ lun_at self.now lun }
     {
+        // Stays: `as`, here and below: usize has no From<u32>, and it holds them all.
         self.luns[lun as usize]
     }
 

@@ -5,8 +5,7 @@ ghost use Rattle.desk.specs.Calls.{Ensured, read, write, update};
 use crate::{Answer, Desk, Reply};
 use work::{reading, updating, writing};
 
-// Stays: caller, LUN, kind, mode, selector, sizes and quota are any numbers, as C hands them over and as the definition `Call` of
-// specs/Calls has them.
+// Stays: caller, LUN, selector and number are any numbers, as C hands them over and as the definition `Call` of specs/Calls has them.
 impl Desk {
     /// Reads sectors or a record into the buffer: Next, Current, Prior or Random, 0 to 3. `formatted`: a variable record is handed over
     /// as the text that it stands for; other files ignore it. Refuses a volume that is not sound or a desk that does not fit, then the
@@ -29,6 +28,7 @@ impl Desk {
         self.reply(answer)
     }
 
+    // Stays: three times the same three lines, since the works differ in what they lend: a buffer to fill, an image to change.
     fn try_read(
         &mut self,
         image: &[u8],

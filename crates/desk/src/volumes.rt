@@ -10,8 +10,7 @@ use files::check;
 use numbers::MOST_QUOTA;
 use work::{Refusal, bringing, formatting};
 
-// Stays: caller, LUN, kind, mode, selector, sizes and quota are any numbers, as C hands them over and as the definition `Call` of
-// specs/Calls has them.
+// Stays: directory sectors and quota are any numbers, as C hands them over and as the definition `Call` of specs/Calls has them.
 impl Desk {
     /// Makes the whole image an empty volume with this ID of four bytes and 1 to 8 directory sectors, and answers an empty desk.
     /// Refuses a length that is not 256 times 16 to 2,048, a number of directory sectors out of range, and a bad ID.
@@ -27,6 +26,7 @@ impl Desk {
         ensures { Ensured (format id.now dirs) (state image.old self.old)
             result image.new self.new [] }
     {
+        // Stays: `as`, here and below: usize has no From<u32>, and what is narrowed is proved to fit.
         formatting::format(image, id, dirs as usize)?;
         *self = Desk::empty();
         Ok(Report::Moved(0))

@@ -20,6 +20,7 @@ pub const DESK_BYTES: usize = LUN_BYTES * LUNS;
 type Packed = [u8; LUN_BYTES];
 
 // What a place has moved, 0 when Fresh.
+// Stays: this and `first_of` are the definitions of the same names, one line each.
 fn count_of(p: Place) -> u32
     ensures { result ≡ count_of p }
 {

@@ -106,6 +106,6 @@ pub fn check(img: &[u8]) -> Checked
             free: 0,
         };
     };
-    let free = free_sectors(img, p);
+    let free = free_sectors(&Volume { img, p });
     Checked { sound: true, free }
 }

@@ -63,6 +63,7 @@ pub(crate) fn lun(block: &Block) -> u32
 pub(crate) fn number(block: &Block) -> u32
     ensures { result ≡ number_in block.now }
 {
+    // Stays: `as`, here and below: four bytes are a u32, which has no From<usize>.
     long_at(block, NUMBER_AT) as u32
 }
 

@@ -76,7 +76,7 @@ pub fn twynarvel_compact(image: &mut [u8], desk: &[u8], quota: u32, report: &mut
     ensures { (served result image.new desk.now ≡ serve (compact quota) image.old desk.now)
         × (report.new ≡ report_after quota image.old desk.now report.old) }
 {
-    // Stays: no `serve` here and below. The image is changed: of a closure that holds it and is not called its bytes would not be known.
+    // Stays: no `serve` here, in allocate and in delete. The image is changed: of a closure that holds it and is not called its bytes would not be known.
     let Ok(d) = desks::unpacked(desk) else {
         return number(Err(Refusal::NotSound));
     };

@@ -29,6 +29,7 @@ pub(crate) fn write_report(a: Answer, report: &mut [u8])
         if report.len() == REPORT_BYTES {
             report[0] = ending_number(ending);
             report[1] = 0;
+            // Stays: `as`: usize has no From<u32>, and it holds them all.
             put_word(report, 2, moved as usize);
         }
     }

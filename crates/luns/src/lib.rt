@@ -20,7 +20,7 @@ pub enum Mode {
     Erew = 7,
 }
 
-// Stays: no Option, since the definitions of specs/Luns (moved_to, target, placeless, place_exists) name its two cases.
+// Stays: no Option, since the definitions of specs/Luns (free_lun, target, placeless, place_exists) name its two cases.
 /// Where a LUN stands in its file: nowhere yet, or at record (or sector) i with n of them moved.
 #[derive(Clone, Copy, Debug, PartialEq, Eq)]
 pub enum Place {

@@ -7,8 +7,9 @@ ghost use Rattle.volume.specs.Sat.{with_bit};
 ghost use Rattle.moves.specs.Moves.{rerouted_pairs, relocated};
 ghost use Rattle.moves.specs.Code.Shapes.{Movable, Writes, moved_with};
 
-use crate::rerouting::{NoSegment, reroute};
+use crate::rerouting::reroute;
 use lists::parts::{Sector, at_sector, sector_of};
+use ownership::blocks::NoSegment;
 use volume::directory::{entry_of, start};
 use volume::locate::Layout;
 use volume::sat::{Mark, set_bit};

@@ -6,22 +6,16 @@ ghost use Rattle.ownership.specs.Blocks.{total, stream_length, sectors_of, block
 ghost use Rattle.ownership.specs.Code.Shapes.{Extended};
 ghost use Rattle.moves.specs.Code.Shapes.{run_with, TakesRuns, Reroutes};
 
-use ownership::blocks::{Block, Segment, extend_run, pairs, set_totals, stream_length, total};
-
-/// No segment is left: an access block has at most 62.
-#[derive(Clone, Copy, Debug, PartialEq, Eq, Hash)]
-pub struct NoSegment;
+use ownership::blocks::{
+    Block, NoSegment, Segment, extend_run, pairs, set_totals, stream_length, total,
+};
 
 // The n sectors from s on join the block g.
 fn push_run(g: &mut [u8], s: usize, n: usize) -> Result<(), NoSegment>
     requires { TakesRuns g.old × (s + n ≤ most_sectors) }
     ensures { Extended g.old (range s n) (is_ok result) g.new }
 {
-    if extend_run(g, s, n) {
-        Ok(())
-    } else {
-        Err(NoSegment)
-    }
+    extend_run(g, s, n)
 }
 
 // They do with q for number j of them.

@@ -1,5 +1,5 @@
 // File access blocks: where their numbers stand; read, judged, extended, written.
-ghost use Rattle.std.specs.Prelude.{◌≡◌, false, ◌+◌, ◌*◌, ◌≤◌, ◌<◌, [], ◌∷◌, ◌++◌, length};
+ghost use Rattle.std.specs.Prelude.{◌≡◌, false, ◌+◌, ◌*◌, ◌≤◌, ◌<◌, [], ◌∷◌, ◌++◌, length, is_ok};
 ghost use Rattle.std.specs.List.{list_all, sum_by};
 ghost use Rattle.numbers.specs.Numbers.{most_segments};
 ghost use Rattle.ownership.specs.Blocks.{pairs, segments, total, stream_length, seg_start, seg_length, block_of, extended};
@@ -145,23 +145,27 @@ pub fn extend(f: &mut [u8], s: usize)
     }
 }
 
-/// n sectors from s on more at the file's end, if 62 segments are enough. If not, the answer is false, and the block stays as it was.
-pub fn extend_run(f: &mut [u8], s: usize, n: usize) -> bool
+/// No segment is left: an access block has at most 62.
+#[derive(Clone, Copy, Debug, PartialEq, Eq, Hash)]
+pub struct NoSegment;
+
+/// n sectors from s on more at the file's end, if 62 segments are enough. If not, the block stays as it was.
+pub fn extend_run(f: &mut [u8], s: usize, n: usize) -> Result<(), NoSegment>
     requires { ExtendsRun f.old s n }
-    ensures { Extended f.old (range s n) result f.new × (result ≡ false → f.new ≡ f.old) }
+    ensures { Extended f.old (range s n) (is_ok result) f.new × (is_ok result ≡ false → f.new ≡ f.old) }
 {
     if n == 0 {
-        return true;
+        return Ok(());
     }
     if joins(f, s) {
         lengthen(f, n);
-        return true;
+        return Ok(());
     }
     if MOST_SEGMENTS <= segments(f) {
-        return false;
+        return Err(NoSegment);
     }
     open_segment(f, s, n);
-    true
+    Ok(())
 }
 
 /// The total of data sectors and the stream's length, written anew.

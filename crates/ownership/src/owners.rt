@@ -21,7 +21,7 @@ use volume::sat::{Mark, same_table, set_bit, set_run, set_run_in};
 use volume::search::free_count;
 use volume::used::Used;
 
-/// A sector that is claimed has an owner already.
+// A sector that is claimed has an owner already.
 #[derive(Clone, Copy, Debug, PartialEq, Eq)]
 struct Clash;
 
@@ -131,11 +131,10 @@ pub fn owners_sound(u: &Used<'_, '_>) -> bool
 }
 
 /// How many sectors are free?
-pub fn free_sectors(img: &[u8], p: Layout) -> usize
-    requires { Located img.now p }
-    ensures { result ≡ free img.now }
+pub fn free_sectors(v: &Volume<'_>) -> usize
+    ensures { result ≡ free v.now.img.now }
 {
-    free_count(Volume { img, p }.table(), p.t)
+    free_count(v.table(), v.p.t)
 }
 
 /// What a slot of the directory holds.

@@ -33,6 +33,7 @@ fn slot_letter(k: usize) -> u8
     ensures { result ≡ slot_letter k }
 {
     if k < CAPITALS {
+        // Stays: `as`, here and below: each k is below the number of its letters.
         b'A' + k as u8
     } else if k < LETTERS {
         b'a' + (k - CAPITALS) as u8

@@ -4,6 +4,7 @@
 
 ghost use Rattle.promises.specs.Demands.{Demands};
 
+/// All that was asked for, as one contract.
 pub fn promised()
     ensures { Demands }
 {}

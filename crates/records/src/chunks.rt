@@ -6,7 +6,7 @@ ghost use Rattle.records.specs.Code.Mapped.{Mapped, written_at};
 
 use lists::parts::at_sector;
 
-// Over the bytes of a part from r on.
+/// Writes over the bytes of a part from r on.
 #[tactic(auto, unfolding(lists::specs::Parts::put))]
 pub fn copy_at(part: &mut [u8], r: usize, src: &[u8])
     requires { r + length src.now ≤ length part.old }

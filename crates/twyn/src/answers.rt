@@ -22,8 +22,8 @@ impl fmt::Display for Told {
         let answer = self.0;
         write!(f, "{:02X} {}", status_of(answer), moved_of(answer))?;
         match answer {
-            // Of a volume that is not sound no sector is free.
             Ok(Report::Checked { sound: true, free }) => write!(f, " sound {free}"),
+            // Of a volume that is not sound no sector is free.
             Ok(Report::Checked { sound: false, free }) => write!(f, " unsound {free}"),
             Ok(Report::Compacted { moved, ending }) => { write!(f, " {moved} {}", reason(ending)) }
             Ok(Report::Moved(_)) | Err(_) => Ok(()),

@@ -34,6 +34,7 @@ pub fn entry_of(img: &[u8], p: Layout, k: usize) -> &Entry
     Volume { img, p }.entry(k)
 }
 
+/// Whether an entry is unused: all its bytes are zero.
 pub fn unused(e: &[u8]) -> bool
     ensures { result ≡ unused e.now }
 {
@@ -48,6 +49,7 @@ pub fn kind(e: &Entry) -> usize
     usize::from(e[1])
 }
 
+/// Whether the file is contiguous.
 #[tactic(auto, unfolding(crate::specs::Directory::contiguous))]
 pub fn contiguous(e: &Entry) -> bool
     ensures { result ≡ contiguous e.now }
@@ -69,6 +71,7 @@ pub fn read_code(e: &Entry) -> u8
     e[23]
 }
 
+/// The length of each record of a sequential file, 0 if they are variable.
 pub fn record_length(e: &Entry) -> usize
     ensures { (result ≡ record_length e.now) × (result < 65536) }
 {
@@ -189,22 +192,6 @@ impl<'a> Volume<'a> {
     {
         self.entries().iter().position(|e| unused(e))
     }
-}
-
-/// The lowest slot of that name.
-pub fn find(img: &[u8], p: Layout, desc: &[u8]) -> Option<usize>
-    requires { Located img.now p }
-    ensures { result ≡ found_of (8 * p.dirs) (index (named desc.now) (entries img.now)) }
-{
-    Volume { img, p }.find(desc)
-}
-
-/// The lowest unused slot.
-pub fn lowest_unused(img: &[u8], p: Layout) -> Option<usize>
-    requires { Located img.now p }
-    ensures { result ≡ found_of (8 * p.dirs) (index unused (entries img.now)) }
-{
-    Volume { img, p }.lowest_unused()
 }
 
 // What stands after the descriptor.

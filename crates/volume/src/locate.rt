@@ -69,7 +69,7 @@ fn dirs_good(tr: &Sector, t: usize) -> bool
 }
 
 // Stays: two returns, since the trailer is read only where the image has a sector, and its D only where its distances stay inside.
-// Point 1 of soundness.
+/// Point 1 of soundness.
 pub fn sound_1(img: &[u8]) -> bool
     ensures { result ≡ sound1 img.now }
 {

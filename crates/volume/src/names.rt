@@ -15,6 +15,7 @@ fn in_name(c: u8) -> bool
     c.is_ascii_uppercase() || c.is_ascii_digit()
 }
 
+/// Whether there is nothing but spaces.
 pub fn all_spaces(s: &[u8]) -> bool
     ensures { result ≡ spaces s.now }
 {
@@ -34,6 +35,7 @@ fn name_end(s: &[u8]) -> bool
     true
 }
 
+/// Whether these bytes are a name: a capital, then capitals and digits, then spaces.
 pub fn name(s: &[u8]) -> bool
     ensures { result ≡ name s.now }
 {
@@ -60,12 +62,14 @@ pub fn user_of(d: &[u8]) -> usize
     word_at(d, 0)
 }
 
+/// Whether these bytes are a descriptor: a user, a catalog or spaces, a filename and an extension.
 pub fn descriptor(d: &[u8]) -> bool
     ensures { result ≡ descriptor d.now }
 {
     d.len() == 20 && user_of(d) <= LAST_USER as usize && names_in(d)
 }
 
+/// Whether these bytes are a volume ID: a name of four.
 #[tactic(auto, using(lists::proofs::Steps::bool_steps, std::proofs::lemmas::Bool::Decides::nat_tests), unfolding(crate::specs::Names::volume_id))]
 pub fn volume_id(id: &[u8]) -> bool
     ensures { result ≡ volume_id id.now }

@@ -13,7 +13,7 @@ pub fn quad_at(sat: &Sector, q: usize) -> usize
     usize::from_be_bytes(sat.as_chunks::<8>().0[q])
 }
 
-// Stays: 8 for none, here, and 64 below: the searches go on from that place.
+// Stays: 8 for none, here, and 64 below, as the definition `first` answers the number past the last.
 /// The first clear bit of a byte from bit k on, or 8: the count of leading zeros of its complement, with the bits before k shifted out.
 pub fn first_clear(b: u8, k: usize) -> usize
     requires { k < 8 }

@@ -13,8 +13,9 @@ use files::allocation;
 use files::allocation::lowest_start;
 use files::rights::has_right;
 use numbers::{MOST_SECTORS, RECORD_LIMIT};
-use volume::directory::{code_allowed, find, lowest_unused};
+use volume::directory::code_allowed;
 use volume::locate::Layout;
+use volume::mount::Volume;
 use volume::names::{descriptor, user_of};
 
 // Stays: the kind is a number, since a call may pass any and the entry holds it as one; `allocate` refuses those above 1.
@@ -53,7 +54,9 @@ fn place(
         × (code_allowed (user_of desc.now) read_code ≡ true) }
     ensures { deed result image.new [] ≡ place_deed image.old desc.now kind size «record» read_code }
 {
-    let slot = lowest_unused(image, p).ok_or(Refusal::DirectoryFull)?;
+    let slot = Volume { img: image, p }
+        .lowest_unused()
+        .ok_or(Refusal::DirectoryFull)?;
     let s = lowest_start(image, p, kind, size);
     if p.t <= s {
         return Err(Refusal::NoRoom);
@@ -92,7 +95,7 @@ pub fn allocate(
     if !has_right(caller, user as u32) {
         return Err(Refusal::NoRight);
     }
-    if find(image, p, desc).is_some() {
+    if (Volume { img: image, p }).find(desc).is_some() {
         return Err(Refusal::NameTaken);
     }
     place(image, p, desc, kind, size, record, read_code)

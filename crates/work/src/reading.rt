@@ -39,6 +39,7 @@ fn read_run(
     let k = fewer(n, i, buffer.len() / 256);
     read_sectors(image, s + i, k, buffer);
     Ok(Transfer {
+        // Stays: `as`, here and below: the numbers fit, as is proved, and u32 has no From<usize>.
         bytes: (256 * k) as u32,
         from: i as u32,
         count: k as u32,

@@ -29,12 +29,14 @@ fn replace_by(
 {
     update_record(image, p, slot, i, stored)?;
     Ok(Transfer {
+        // Stays: `as`, here and below: the numbers fit, as is proved, and u32 has no From<usize>.
         bytes: data.len() as u32,
         from: i as u32,
         count: 1,
     })
 }
 
+// Stays: as `write_record` but for its last line, which replaces where that one appends: a closure would hold the image.
 // Record i by the data that were sent, coded.
 fn update_coded<C: Coding>(
     image: &mut [u8],

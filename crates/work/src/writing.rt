@@ -19,6 +19,7 @@ use numbers::{MOST_SEGMENTS, RECORD_LIMIT};
 use ownership::owners::free_sectors;
 use volume::directory::{contiguous, entry_of, record_length, size};
 use volume::locate::Layout;
+use volume::mount::Volume;
 
 // Whether k sectors from number i on start at or past the end of n, or cross it.
 #[tactic(auto, using(lists::proofs::Steps::bool_steps, std::proofs::lemmas::Bool::Decides::nat_tests), unfolding(crate::specs::Code::Runs::crosses))]
@@ -50,6 +51,7 @@ fn write_run(
     }
     overwrite(image, p, slot, i, data);
     Ok(Transfer {
+        // Stays: `as`, here and below: the numbers fit, as is proved, and u32 has no From<usize>.
         bytes: data.len() as u32,
         from: i as u32,
         count: k as u32,
@@ -69,7 +71,7 @@ fn write_next(
     ensures { deed result image.new «data».now ≡ append_deed image.old slot i stored.now
         «data».now }
 {
-    if free_sectors(image, p) < needed_sectors(image, p, slot, stored) {
+    if free_sectors(&Volume { img: image, p }) < needed_sectors(image, p, slot, stored) {
         return Err(Refusal::NoRoom);
     }
     if MOST_SEGMENTS < segments_after(image, p, slot, stored) {

@@ -6,10 +6,11 @@ use Rattle.desk.proofs.Desk.begin.Goals as goal
 pub returns-in_default : goal.returns-in_default
 returns-in_default c = begun_nowhere _ _ _ (sym c.locate_sound.ensures ∙ c.in_default.is)
 
+pub invariant_of-fits : goal.invariant_of-fits
+invariant_of-fits c = record { located = (sound-Layout _ _ (sym c.locate_sound.ensures ∙ c.in-Some.is)).1 }
+
 pub fits-requires : goal.fits-requires
-fits-requires c =
-    let s = sound-Layout _ _ (sym c.locate_sound.ensures ∙ c.in-Some.is) in
-    (s.1, s.0)
+fits-requires c = (sound-Layout _ _ (sym c.locate_sound.ensures ∙ c.in-Some.is)).0
 
 pub returns-then-not-fits : goal.returns-then-not-fits
 returns-then-not-fits c = begun_misfit _ _ _ (sym c.fits.ensures ∙ c.if-not-fits.true)

@@ -20,10 +20,10 @@ returns-in_default c =
     mode_refused _ _ _ _ _ _ _ (mode_unknown _ _ (sym c.try_from.ensures ∙ c.in_default.is))
     ∙ assign_begun _ _ _ _ _ _ _ _ (sym (c.begin.ensures ∙ ap (begun_of _) c.spare.ensures) ∙ c.in_ok-p.was)
 
-pub seek-requires : goal.seek-requires
-seek-requires c =
+pub invariant_of-seek : goal.invariant_of-seek
+invariant_of-seek c =
     let b = begins _ _ _ (sym (c.begin.ensures ∙ ap (begun_of _) c.spare.ensures) ∙ c.in_ok-p.was) in
-    b.located
+    record { located = b.located }
 
 pub returns-in_err-slot : goal.returns-in_err-slot
 unfolding assign_left

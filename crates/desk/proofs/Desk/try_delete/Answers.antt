@@ -11,8 +11,8 @@ unfolding step rules given delete_rules
 returns-in_err-p c =
     rw (handed_on _ _ c.from_residual.ensures.1) (sym (begun_refused _ _ _ (sym c.begin.ensures ∙ c.in_err-p.was) _ _ _))
 
-pub seek-requires : goal.seek-requires
-seek-requires c = let b = begins _ _ _ (sym c.begin.ensures ∙ c.in_ok-p.was) in b.located
+pub invariant_of-seek : goal.invariant_of-seek
+invariant_of-seek c = record { located = (begins _ _ _ (sym c.begin.ensures ∙ c.in_ok-p.was)).located }
 
 pub returns-in_err-slot : goal.returns-in_err-slot
 unfolding delete_left

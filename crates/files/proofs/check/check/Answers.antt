@@ -5,8 +5,8 @@ use Rattle.files.proofs.check.check.Goals as goal
 pub returns-in_default : goal.returns-in_default
 returns-in_default c = checked_no _ (no_layout _ (sym c.locate_sound.ensures ∙ c.in_default.is))
 
-pub free_sectors-free-requires : goal.free_sectors-free-requires
-free_sectors-free-requires c = (sound-Layout _ _ (sym c.locate_sound.ensures ∙ c.in-Some.is)).1
+pub invariant_of-free_sectors : goal.invariant_of-free_sectors
+invariant_of-free_sectors c = record { located = (sound-Layout _ _ (sym c.locate_sound.ensures ∙ c.in-Some.is)).1 }
 
 pub returns : goal.returns
 returns c =

@@ -13,12 +13,12 @@ returns-then-not-fit c =
     let long : length c.args.luns.now ≡ 16 =
     search (rules, length_of_map) in
     let r = c.loop-rest.rest.now in
-    sym (whole_fits _ _ long ∙ c.loop-rest.invariant ∙ left_unfit c.args.image.now r c.in-len1-up.len_at_least (sym c.if-not-fit.true ∙ c.fit.ensures))
+    sym (whole_fits _ _ long ∙ c.loop-rest.invariant ∙ left_unfit c.args.v.now.img.now r c.in-len1-up.len_at_least (sym c.if-not-fit.true ∙ c.fit.ensures))
 
 pub loop-rest-preserved : goal.loop-rest-preserved
 unfolding free_lun
 loop-rest-preserved c =
-    let img = c.args.image.now in
+    let img = c.args.v.now.img.now in
     let r = c.loop-rest.rest.now in
     c.loop-rest.invariant
     ∙ elim c.else-u.branch [

@@ -16,4 +16,4 @@ returns c =
     ∙ rw (
       c.find.ensures,
       sym c.descriptor.ensures ∙ c.if-not-descriptor.false,
-    ) (ok_or_found _ _ c.requires _ _)
+    ) (ok_or_found _ _ c.args.v.now.located _ _)
