@@ -6,7 +6,7 @@ use mathlib.Core.List.{List, []}
 use Prim.Native.Nat.{ℕ, ◌+◌, ◌*◌, ◌-◌, ◌%◌, ◌≤◌, ◌<◌, ◌/◌, suc, zero-le}
 use native.Mathlib.Omega.{arith}
 use native.Mathlib.Decide.{dec_lt, ℕ_discrete}
-use native.Mathlib.Nat.{zero-mul, one-mul, mul-zero, mul-suc, mul-le-mul_left, div-add-mod}
+use native.Mathlib.Nat.{zero-mul, mul-suc, mul-le-mul_left, div-add-mod}
 use lib.ListN.{length, get_or-eq_default, drop, get_or, length-drop}
 use lib.Seq.{length-take-le, get_or-take}
 use lib.Dec.{eqb}
@@ -53,12 +53,6 @@ next_bad s p e = go (good_at s p) refl e
     go false h e = h
 
 -- the first e bytes of a mapped stream
-no_time : (a b : ℕ) → a ≡ 0 → a * b ≡ 0
-no_time a b z = rw z (zero-mul b)
-
-one_time : (a b : ℕ) → a ≡ 1 → a * b ≡ 0 → b ≡ 0
-one_time a b e z = sym (one-mul b) ∙ rw e at z
-
 module _ (img ss : List ℕ) (m : Mapped img ss) (e : ℕ) (fits : e ≤ 256 * length ss) where
   abbrev all_of : List ℕ
   all_of = laid_out img ss
@@ -125,18 +119,11 @@ module _ (img ss : List ℕ) (m : Mapped img ss) (e : ℕ) (fits : e ≤ 256 * l
         good_as : good_at s p ≡ eqb (n % 2 * last) 0
         good_as = good_pads s p n here room_s (omega (arith, length-stream_in)) few ∙ ap (λ (y : ℕ). eqb y 0) pad_is
 
-        pub at_pad : (n % 2 ≡ 0 → ⊥) → (last ≡ 0 → ⊥) → None ≡ step_at s p
-        at_pad odd g =
-            step_bad s p (good_as ∙ ne_eqb _ _ (λ z. g (one_time _ _ (omega arith) z)))
+        pub at_pad : (n % 2 * last ≡ 0 → ⊥) → None ≡ step_at s p
+        at_pad g = step_bad s p (good_as ∙ ne_eqb _ _ g)
 
-        at_good : n % 2 * last ≡ 0 → Some (p + (2 + n + n % 2)) ≡ step_at s p
+        pub at_good : n % 2 * last ≡ 0 → Some (p + (2 + n + n % 2)) ≡ step_at s p
         at_good g = step_good s p _ n here (omega arith) (good_as ∙ eq-eqb _ _ g)
-
-        pub at_even : n % 2 ≡ 0 → Some (p + (2 + n + n % 2)) ≡ step_at s p
-        at_even z = at_good (no_time _ _ z)
-
-        pub at_padded : last ≡ 0 → Some (p + (2 + n + n % 2)) ≡ step_at s p
-        at_padded z = at_good (rw z (mul-zero (n % 2)))
 
 -- n records up to p: what is left is whole if the stream is, and has the other records
 pub record Walked (s : List ℕ) (p n : ℕ) : Type 0 where

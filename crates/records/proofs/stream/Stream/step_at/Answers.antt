@@ -1,7 +1,9 @@
-use mathlib.Core.Path.{sym, ◌∙◌}
+use mathlib.Core.Path.{◌∙◌}
+use Prim.Native.Nat.{◌%◌, ◌≤◌}
+use native.Mathlib.Nat.{mul-le-mul_right}
 use native.Mathlib.Omega.{arith}
 use Rattle.records.proofs.StreamRuns.{run_room, run_word}
-use Rattle.records.proofs.WalkSteps.{at_short, at_large, at_past, at_even, at_padded, at_pad}
+use Rattle.records.proofs.WalkSteps.{at_short, at_large, at_past, at_pad, at_good}
 use Rattle.records.proofs.stream.Stream.step_at.Goals as goal
 
 pub returns-then-e-p-lt2 : goal.returns-then-e-p-lt2
@@ -26,18 +28,21 @@ returns-then-n-gt-RECORD_LIMIT c =
 pub byte_before-requires : goal.byte_before-requires
 byte_before-requires c = (omega arith, omega arith, c.requires.3)
 
-pub returns-then-byte_before-ne0 : goal.returns-then-byte_before-ne0
-returns-then-byte_before-ne0 c =
+pub overflow_mul-n : goal.overflow_mul-n
+overflow_mul-n c =
+    let h : c.word_at-n.result % 2 ≤ 1 = omega arith in
+    omega (arith, mul-le-mul_right c.from.result h, c.from.ensures, c.byte_before.type_inv)
+
+pub returns-then-n-from-ne0 : goal.returns-then-n-from-ne0
+returns-then-n-from-ne0 c =
     let a = c.args in
     let w = c.word_at-n.ensures.0 ∙ run_word a.self.now.map.now a.p a.run c.requires.3 a.self.now.img.now a.self.now.mapped c.requires.2 (omega arith) in
-    at_pad a.self.now.img.now a.self.now.map.now a.self.now.mapped a.e c.requires.0 a.p _ w (omega arith) (omega arith) (omega arith) c.if-n-ne0.true (λ z. c.if-byte_before-ne0.true (c.byte_before.ensures ∙ z))
+    at_pad a.self.now.img.now a.self.now.map.now a.self.now.mapped a.e c.requires.0 a.p _ w (omega arith) (omega arith) (omega arith)
+    (rw (c.from.ensures, c.byte_before.ensures) at c.if-n-from-ne0.true)
 
 pub returns : goal.returns
 returns c =
     let a = c.args in
     let w = c.word_at-n.ensures.0 ∙ run_word a.self.now.map.now a.p a.run c.requires.3 a.self.now.img.now a.self.now.mapped c.requires.2 (omega arith) in
-    elim c.else-n-ne0.branch [
-      | goal.else-n-ne0-via-then-n-ne0+else-byte_before-ne0 v ↦
-          at_padded a.self.now.img.now a.self.now.map.now a.self.now.mapped a.e c.requires.0 a.p _ w (omega arith) (omega arith) (omega arith) (sym v.byte_before.ensures ∙ v.if-byte_before-ne0.false)
-      | goal.else-n-ne0-via-else-n-ne0 v ↦ at_even a.self.now.img.now a.self.now.map.now a.self.now.mapped a.e c.requires.0 a.p _ w (omega arith) (omega arith) (omega arith) v.if-n-ne0.false
-    ]
+    at_good a.self.now.img.now a.self.now.map.now a.self.now.mapped a.e c.requires.0 a.p _ w (omega arith) (omega arith) (omega arith)
+    (rw (c.from.ensures, c.byte_before.ensures) at c.if-n-from-ne0.false)
