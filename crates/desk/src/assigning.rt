@@ -78,7 +78,7 @@ impl Desk {
         if u.mode.writes() && !has_right(caller, owner) || !u.agrees_from(&self.luns, 0) {
             return Err(Refusal::NoRight);
         }
-        self.put(lun, u);
+        self.set_lun(lun, u);
         Ok(Report::Moved(0))
     }
 
@@ -139,7 +139,7 @@ impl Desk {
             result image.now self.new [] }
     {
         self.begin(image, self.mine(caller, lun))?;
-        self.put(lun, Lun::free());
+        self.set_lun(lun, Lun::free());
         Ok(Report::Moved(0))
     }
 
@@ -157,7 +157,7 @@ impl Desk {
             result image.now self.new [] }
     {
         self.begin(image, self.mine(caller, lun))?;
-        self.put(lun, self.lun(lun).moved_to(Place::Fresh));
+        self.set_lun(lun, self.lun(lun).moved_to(Place::Fresh));
         Ok(Report::Moved(0))
     }
 }

@@ -29,8 +29,17 @@ impl Desk {
         self.luns[lun as usize]
     }
 
-    /// Replaces one LUN.
-    pub fn put(&mut self, lun: u32, u: Lun)
+    /// The desk with one LUN replaced.
+    pub fn put(mut self, lun: u32, u: Lun) -> Desk
+        requires { lun < lun_count }
+        ensures { result ≡ put_lun self lun u }
+    {
+        self.set_lun(lun, u);
+        self
+    }
+
+    /// Replaces one LUN of a desk that is lent.
+    pub(crate) fn set_lun(&mut self, lun: u32, u: Lun)
         requires { lun < lun_count }
         ensures { self.new ≡ put_lun self.old lun u }
     {

@@ -11,12 +11,12 @@ returns-in_err-begin c =
     rw (handed_on _ _ c.from_residual.ensures.1)
     (sym (only_refused _ _ _ (sym (c.begin.ensures ∙ ap (begun_of _) c.mine.ensures) ∙ c.in_err-begin.was) _ _))
 
-pub put-requires : goal.put-requires
-put-requires c =
+pub set_lun-requires : goal.set_lun-requires
+set_lun-requires c =
     mine_low _ _ _ (begun_fine _ _ _ (sym (c.begin.ensures ∙ ap (begun_of _) c.mine.ensures) ∙ c.in_ok-begin.was))
 
 pub returns : goal.returns
 unfolding step rules done given quietly
 returns c =
-    rw (c.put.ensures, c.free.ensures)
+    rw (c.set_lun.ensures, c.free.ensures)
     (sym (only_done _ _ _ (sym (c.begin.ensures ∙ ap (begun_of _) c.mine.ensures) ∙ c.in_ok-begin.was) _ _))

@@ -15,12 +15,12 @@ pub lun-requires : goal.lun-requires
 lun-requires c =
     mine_low _ _ _ (begun_fine _ _ _ (sym (c.begin.ensures ∙ ap (begun_of _) c.mine.ensures) ∙ c.in_ok-begin.was))
 
-pub put-requires : goal.put-requires
-put-requires c =
+pub set_lun-requires : goal.set_lun-requires
+set_lun-requires c =
     mine_low _ _ _ (begun_fine _ _ _ (sym (c.begin.ensures ∙ ap (begun_of _) c.mine.ensures) ∙ c.in_ok-begin.was))
 
 pub returns : goal.returns
 unfolding step rules done given quietly
 returns c =
-    rw (c.put.ensures, c.moved_to.ensures, c.lun.ensures)
+    rw (c.set_lun.ensures, c.moved_to.ensures, c.lun.ensures)
     (sym (only_done _ _ _ (sym (c.begin.ensures ∙ ap (begun_of _) c.mine.ensures) ∙ c.in_ok-begin.was) _ _))
