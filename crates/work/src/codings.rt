@@ -21,7 +21,8 @@ use text::unpacking::{text_length, unpack};
 
 /// How the bytes of a transfer to or from a sequential file are stored and handed over.
 pub trait Coding {
-    // whether it is of text; which bytes may be sent to a file of a record length; what is stored for them; what is handed over of that
+    // whether it is of text; which bytes may be sent to a file of a record length; what is stored for them; what is handed over of that; how
+    // long a room it takes to make what is stored
     ghost text: { Bool };
 
     ghost fits: { ℕ → List ℕ → Bool };
@@ -30,13 +31,15 @@ pub trait Coding {
 
     ghost shown: { List ℕ → List ℕ };
 
+    ghost wanted: { ℕ };
+
     /// Whether these bytes may be sent to a file of record length l, 0 for variable ones.
     fn may_send(l: usize, bytes: &[u8]) -> bool
         ensures { result ≡ fits l bytes.now };
 
     /// What is stored for the bytes. It may stand in the room lent.
-    fn store<'a>(bytes: &'a [u8], room: &'a mut [u8; RECORD_LIMIT]) -> &'a [u8]
-        requires { length bytes.now ≤ record_limit }
+    fn store<'a>(bytes: &'a [u8], room: &'a mut [u8]) -> &'a [u8]
+        requires { (length bytes.now ≤ record_limit) × (wanted ≤ length room.old) }
         ensures { result.now ≡ coded bytes.now };
 
     /// Hands over the record that is stored in the `len` bytes of a stream from `from` on: writes it to the front of the buffer, and
@@ -81,11 +84,13 @@ impl Coding for Plain {
 
     ghost shown = { same };
 
+    ghost wanted = { 0 };
+
     fn may_send(l: usize, bytes: &[u8]) -> bool {
         allowed(l, bytes)
     }
 
-    fn store<'a>(bytes: &'a [u8], _room: &'a mut [u8; RECORD_LIMIT]) -> &'a [u8] {
+    fn store<'a>(bytes: &'a [u8], _room: &'a mut [u8]) -> &'a [u8] {
         bytes
     }
 
@@ -122,11 +127,13 @@ impl Coding for Text {
 
     ghost shown = { unpacked };
 
+    ghost wanted = { record_limit };
+
     fn may_send(_l: usize, bytes: &[u8]) -> bool {
         text_fits(bytes)
     }
 
-    fn store<'a>(bytes: &'a [u8], room: &'a mut [u8; RECORD_LIMIT]) -> &'a [u8] {
+    fn store<'a>(bytes: &'a [u8], room: &'a mut [u8]) -> &'a [u8] {
         let n = pack(bytes, room);
         &room[..n]
     }

@@ -44,17 +44,17 @@ fn update_coded<C: Coding>(
     slot: usize,
     i: usize,
     data: &[u8],
+    room: &mut [u8],
 ) -> Result<Transfer, Refusal>
     requires { InUse image.old p slot × (contiguous (entry_at image.old slot) ≡ false)
-        × (as_text C.text (entry_at image.old slot) ≡ C.text) }
+        × (as_text C.text (entry_at image.old slot) ≡ C.text) × (C.wanted ≤ length room.old) }
     ensures { deed result image.new «data».now ≡ update_deed image.old
         (entry_at image.old slot) i C.text «data».now }
 {
     if !C::may_send(record_length(entry_of(image, p, slot)), data) {
         return Err(Refusal::BadLength);
     }
-    let mut room = [0u8; RECORD_LIMIT];
-    let stored = C::store(data, &mut room);
+    let stored = C::store(data, room);
     replace_by(image, p, slot, i, stored, data)
 }
 
@@ -76,7 +76,8 @@ pub fn update(
         return Err(Refusal::BadRequest);
     }
     if as_text(image, p, slot, formatted) {
-        return update_coded::<Text>(image, p, slot, i, data);
+        let mut room = [0u8; RECORD_LIMIT];
+        return update_coded::<Text>(image, p, slot, i, data, &mut room);
     }
-    update_coded::<Plain>(image, p, slot, i, data)
+    update_coded::<Plain>(image, p, slot, i, data, &mut [])
 }

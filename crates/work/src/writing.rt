@@ -115,16 +115,16 @@ fn write_record<C: Coding>(
     slot: usize,
     i: usize,
     data: &[u8],
+    room: &mut [u8],
 ) -> Result<Transfer, Refusal>
     requires { InUse image.old p slot × (contiguous (entry_at image.old slot) ≡ false)
-        × (as_text C.text (entry_at image.old slot) ≡ C.text) }
+        × (as_text C.text (entry_at image.old slot) ≡ C.text) × (C.wanted ≤ length room.old) }
     ensures { deed result image.new «data».now ≡ write_deed image.old slot i C.text «data».now }
 {
     if !C::may_send(record_length(entry_of(image, p, slot)), data) {
         return Err(Refusal::BadLength);
     }
-    let mut room = [0u8; RECORD_LIMIT];
-    let stored = C::store(data, &mut room);
+    let stored = C::store(data, room);
     write_stored(image, p, slot, i, stored, data)
 }
 
@@ -147,7 +147,8 @@ pub fn write(
         return write_run(image, p, slot, i, data);
     }
     if as_text(image, p, slot, formatted) {
-        return write_record::<Text>(image, p, slot, i, data);
+        let mut room = [0u8; RECORD_LIMIT];
+        return write_record::<Text>(image, p, slot, i, data, &mut room);
     }
-    write_record::<Plain>(image, p, slot, i, data)
+    write_record::<Plain>(image, p, slot, i, data, &mut [])
 }

@@ -1,4 +1,5 @@
 use mathlib.Core.Path.{sym, ◌∙◌}
+use native.Mathlib.Omega.{arith}
 use Rattle.work.proofs.TextRules.{text_asked, not_asked}
 use Rattle.work.proofs.Updates.{update_contiguous, plain_update}
 use Rattle.work.proofs.updating.update.Goals as goal
@@ -14,7 +15,7 @@ as_text-requires c =
 pub update_coded-requires : goal.update_coded-requires
 update_coded-requires c =
     let t = sym c.as_text.ensures ∙ c.if-as_text.true in
-    (c.requires, sym (rw c.entry_of.ensures at c.contiguous.ensures) ∙ c.if-contiguous.false, rw (text_asked _ _ t) at t)
+    (c.requires, sym (rw c.entry_of.ensures at c.contiguous.ensures) ∙ c.if-contiguous.false, rw (text_asked _ _ t) at t, omega arith)
 
 pub returns-then-as_text : goal.returns-then-as_text
 returns-then-as_text c =
@@ -22,7 +23,7 @@ returns-then-as_text c =
     rw (text_asked _ _ t) c.update_coded.ensures
 
 pub update_coded-requires-2 : goal.update_coded-requires-2
-update_coded-requires-2 c = (c.requires, sym (rw c.entry_of.ensures at c.contiguous.ensures) ∙ c.if-contiguous.false, not_asked _)
+update_coded-requires-2 c = (c.requires, sym (rw c.entry_of.ensures at c.contiguous.ensures) ∙ c.if-contiguous.false, not_asked _, omega arith)
 
 pub returns : goal.returns
 returns c = c.update_coded-2.ensures ∙ plain_update _ _ _ _ _ (sym c.as_text.ensures ∙ c.if-as_text.false)

@@ -13,7 +13,7 @@ returns-then-not-may_send g c =
     update_wrong _ _ _ _ c.requires.1 _ (asked ∙ ap not c.if-not-may_send.true)
 
 pub store-stored-requires : goal.store-stored-requires
-store-stored-requires g c = g.met.C.Coding.short _ _ (sym c.may_send.ensures ∙ c.if-not-may_send.false)
+store-stored-requires g c = (g.met.C.Coding.short _ _ (sym c.may_send.ensures ∙ c.if-not-may_send.false), c.requires.3)
 
 pub replace_by-requires : goal.replace_by-requires
 replace_by-requires g c = (c.requires.0, c.requires.1, g.met.C.Coding.short _ _ (sym c.may_send.ensures ∙ c.if-not-may_send.false))

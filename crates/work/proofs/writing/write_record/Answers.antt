@@ -14,7 +14,7 @@ returns-then-not-may_send g c =
     record_wrong _ _ _ _ _ (asked ∙ ap not c.if-not-may_send.true)
 
 pub store-stored-requires : goal.store-stored-requires
-store-stored-requires g c = g.met.C.Coding.short _ _ (sym c.may_send.ensures ∙ c.if-not-may_send.false)
+store-stored-requires g c = (g.met.C.Coding.short _ _ (sym c.may_send.ensures ∙ c.if-not-may_send.false), c.requires.3)
 
 pub write_stored-requires : goal.write_stored-requires
 write_stored-requires g c =
