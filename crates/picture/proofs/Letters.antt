@@ -38,7 +38,7 @@ or_right_first true b c d = refl
 or_right_first false true c d = refl
 or_right_first false false c d = refl
 
-system_test : (p : Layout) (x : ℕ) → eqb x 0 or eqb x p.sat or eqb x (p.t - 1) or (leb p.dir x and ltb x (p.dir + p.dirs)) ≡ among x (system_of p)
+pub system_test : (p : Layout) (x : ℕ) → eqb x 0 or eqb x p.sat or eqb x (p.t - 1) or (leb p.dir x and ltb x (p.dir + p.dirs)) ≡ among x (system_of p)
 unfolding system_of among
 system_test p x = rw (range_test x p.dir p.dirs) (or_right_first (eqb x 0) (eqb x p.sat) (eqb x (p.t - 1)) _)
 

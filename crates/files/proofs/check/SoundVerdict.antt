@@ -67,11 +67,11 @@ module _ (img : List ℕ) where
   judged_not_before e = rw (parts_before, unsound_judged img e)
 
   module _ (p : Layout) (h : OwnerSound img p) where
-    judged_bad : all (file_sound img) (entries img) ≡ false → None ≡ sound_at img
+    pub judged_bad : all (file_sound img) (entries img) ≡ false → None ≡ sound_at img
     unfolding sound_at ◌and◌
     judged_bad e = rw (parts, owner_by img p h, e)
 
-    judged_good : all (file_sound img) (entries img) ≡ true → Some p ≡ sound_at img
+    pub judged_good : all (file_sound img) (entries img) ≡ true → Some p ≡ sound_at img
     unfolding sound_at ◌and◌
     judged_good e = rw (parts, owner_by img p h, e) (ap Some (Layout-is img p h.located))
 

@@ -11,7 +11,7 @@ use Rattle.lists.specs.Parts.{filled, blanks, in_sectors, zeros, sectors}
 use Rattle.lists.proofs.Tests.{both_true, or_second, zeros-blanks}
 use Rattle.lists.proofs.AreBytes.{Bytes}
 use Rattle.lists.proofs.Keeps.{Keeps}
-use Rattle.volume.specs.Volume.{sat_at, dirs}
+use Rattle.volume.specs.Volume.{sat_at, dirs, sat}
 use Rattle.volume.specs.Directory.{entry_at, unused, contiguous, start, record_length}
 use Rattle.volume.specs.Sat.{free}
 use Rattle.lists.proofs.ByteLists.{Bytes-put}
@@ -26,7 +26,7 @@ use Rattle.files.specs.Changes.{updated}
 use Rattle.files.proofs.SoundFacts.{Facts, CountsTrue}
 use Rattle.files.proofs.OneFileChanged.{Changed, entry_here}
 use Rattle.files.proofs.FileBytes.{Bytes-stream, Bytes-laid}
-use Rattle.files.proofs.OwnSectorsWritten.{Part, slot_placed, slot_count, Changed-within, sound_within, free_within, sectors_within}
+use Rattle.files.proofs.OwnSectorsWritten.{Part, slot_placed, slot_count, Changed-within, sound_within, free_within, sectors_within, sat_within}
 use Rattle.files.proofs.SequentialFile.{logical_is, owned_is, placed_is, content_is, record_length_lem, total_is, logical-inside, logical-distinct, fab_apart, length-logical}
 use Rattle.files.proofs.SequentialFile.{length-stream, stream_whole}
 
@@ -67,6 +67,10 @@ module _ (v : List ℕ) (F : Facts v) (k : ℕ) (hk : k < 8 * dirs v) (used : un
   pub updated-Changed : Changed v (updated (entry_at v k) i r v) k (entry_at v k) (logical v (entry_at v k) ++ range (sat_at v) 1)
   unfolding ss v'
   updated-Changed = Changed-within v F k hk ss v' updated-Keeps mine
+
+  pub updated-sat : sat (updated (entry_at v k) i r v) ≡ sat v
+  unfolding ss v'
+  updated-sat = sat_within v F k hk ss v' updated-Keeps mine
 
   pub updated-free : free (updated (entry_at v k) i r v) ≡ free v
   unfolding ss v'

@@ -38,7 +38,7 @@ extended_by_fewer ps ss k =
     rw e (length-extended_by (extended_by ps (take k ss)) (drop k ss)).0
 
 -- a sector follows the last segment if it is the one after it
-follows_next : (ps : List (List ℕ)) (s : ℕ) → follows ps s ≡ option_eq eqb (next_after ps) (Some s)
+pub follows_next : (ps : List (List ℕ)) (s : ℕ) → follows ps s ≡ option_eq eqb (next_after ps) (Some s)
 unfolding follows next_after
 follows_next [] s = refl
 follows_next (p ∷ []) s = refl
