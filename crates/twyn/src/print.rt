@@ -2,7 +2,7 @@
 // blocks.
 use arrayvec::ArrayString;
 use std::fmt::{Display, Write};
-use std::{fmt, io};
+use std::{fmt, io, str};
 
 /// The most bytes of a line of a script, and of a printed one.
 pub(crate) const LINE_LIMIT: usize = 16640;
@@ -18,10 +18,27 @@ pub(crate) struct Stopped;
 #[derive(Clone, Copy, Debug, PartialEq, Eq)]
 pub(crate) struct Hex<'a>(pub(crate) &'a [u8]);
 
+// The upper-case hexadecimal digit of a byte's lower half.
+fn digit(byte: u8) -> u8 {
+    let d = byte % 16;
+    if d < 10 { b'0' + d } else { b'A' - 10 + d }
+}
+
+// How many bytes' digits are handed to the formatter at once: a call for each byte takes forty times as long.
+const PART: usize = 128;
+
 impl fmt::Display for Hex<'_> {
     fn fmt<W: fmt::Write>(&self, f: &mut fmt::Formatter<W>) -> fmt::Result {
-        for byte in self.0 {
-            write!(f, "{byte:02X}")?;
+        for bytes in self.0.chunks(PART) {
+            let mut digits = [[b'0'; 2]; PART];
+            for (pair, byte) in digits.iter_mut().zip(bytes) {
+                *pair = [digit(byte / 16), digit(*byte)];
+            }
+            match str::from_utf8(digits[..bytes.len()].as_flattened()) {
+                Ok(text) => f.write_str(text)?,
+                // Never reached: digits are text.
+                Err(_) => return Err(fmt::Error),
+            }
         }
         Ok(())
     }
@@ -57,15 +74,12 @@ pub(crate) fn line<T: Display + Drop>(rt: &HostRuntime, what: T) -> io::Result<(
 // How many bytes are written at once in hexadecimal.
 const BLOCK: usize = 8192;
 
-/// Prints a line's end: these bytes in hexadecimal, block after block, `-` if there is none.
-pub(crate) fn end(rt: &HostRuntime, s: &[u8]) -> io::Result<()> {
-    if s.is_empty() {
-        return line(rt, "-");
-    }
+/// Prints more of a line: these bytes in hexadecimal, block after block.
+pub(crate) fn blocks(rt: &HostRuntime, s: &[u8]) -> io::Result<()> {
     for block in s.chunks(BLOCK) {
         begin(rt, Hex(block))?;
     }
-    line(rt, "")
+    Ok(())
 }
 
 /// Says a line on standard error: why the run ends. If it cannot be written, nobody is left to be told.

@@ -139,8 +139,14 @@ impl<'a> Session<'a> {
         let mut buffer = blank();
         let r = calls::read(self.desk, image, target, &mut buffer[..n]);
         self.desk = r.desk;
-        print::begin(rt, format_args!("{} ", Told(r.answer)))?;
-        print::end(rt, &buffer[..n])
+        let told = Told(r.answer);
+        if n == 0 {
+            print::begin(rt, format_args!("{told} -"))?;
+        } else {
+            print::begin(rt, format_args!("{told} "))?;
+            print::blocks(rt, &buffer[..n])?;
+        }
+        print::line(rt, "")
     }
 
     // Carries a command out, and prints its line.

@@ -1,0 +1,8 @@
+use Rattle.std.proofs.Common.{◌≡◌, ◌≤◌, length}
+use Rattle.twyn.proofs.print.HexDisplay.fmt.Given as goal
+
+abbrev pub invariant-loop-pair : goal.invariant-loop-pair
+invariant-loop-pair g l = (l.bytes-iterator.size ≡ 128) × (length l.bytes ≤ 128)
+
+abbrev pub invariant-loop-bytes : goal.invariant-loop-bytes
+invariant-loop-bytes g l = l.bytes-iterator.size ≡ 128
