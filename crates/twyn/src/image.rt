@@ -30,12 +30,15 @@ pub(crate) fn clear(image: &mut Image, size: u32) -> Option<()>
     if IMAGE_LIMIT < size {
         return None;
     }
-    image.clear();
+    // What stays is filled as one part; to let it go first would fill it twice.
+    image.truncate(size);
+    image.fill(0);
     let zeros = [0; PART];
-    for _ in 0..size / PART {
+    let more = size - image.len();
+    for _ in 0..more / PART {
         extend(image, &zeros);
     }
-    extend(image, &zeros[..size % PART]);
+    extend(image, &zeros[..more % PART]);
     Some(())
 }
 

@@ -25,7 +25,7 @@ fn digit(byte: u8) -> u8 {
 }
 
 // How many bytes' digits are handed to the formatter at once: a call for each byte takes forty times as long.
-const PART: usize = 128;
+const PART: usize = 512;
 
 impl fmt::Display for Hex<'_> {
     fn fmt<W: fmt::Write>(&self, f: &mut fmt::Formatter<W>) -> fmt::Result {

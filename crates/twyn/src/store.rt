@@ -11,7 +11,9 @@ use std::{fs, io};
 // How many bytes of the image are read at once.
 const BLOCK: usize = 65536;
 
-// Reads the file into the image, which is empty, to its end. `None`: it is longer than an image may be.
+// Reads the file into the image, which is empty, to its end. `None`: it is longer than an image may be. Not inlined: the run that comes after
+// it would have the block on its stack too.
+#[inline(never)]
 fn read_whole(rt: &HostRuntime, path: &str, image: &mut Image) -> io::Result<Option<()>> {
     let mut file = File::open(rt, path)?;
     let mut block = [0; BLOCK];
