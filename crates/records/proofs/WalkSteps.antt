@@ -103,7 +103,7 @@ module _ (img ss : List ℕ) (m : Mapped img ss) (e : ℕ) (fits : e ≤ 256 * l
       pub at_past : e < p + (2 + n + n % 2) → None ≡ step_at s p
       at_past h = step_bad s p (good_past s p n here room_s (omega (arith, length-stream_in)))
 
-      module _ (few : n ≤ record_limit) (ends : p + (2 + n + n % 2) ≤ e) where
+      module _ (ends : p + (2 + n + n % 2) ≤ e) where
         abbrev last : ℕ
         last = byte all_of (p + (2 + n + n % 2) - 1)
 
@@ -116,14 +116,18 @@ module _ (img ss : List ℕ) (m : Mapped img ss) (e : ℕ) (fits : e ≤ 256 * l
               rw (q, byte-stream_in (p + 2 + n) (omega arith))
         ]
 
-        good_as : good_at s p ≡ eqb (n % 2 * last) 0
-        good_as = good_pads s p n here room_s (omega (arith, length-stream_in)) few ∙ ap (λ (y : ℕ). eqb y 0) pad_is
+        good_as : n ≤ record_limit → good_at s p ≡ eqb (n % 2 * last) 0
+        good_as few = good_pads s p n here room_s (omega (arith, length-stream_in)) few ∙ ap (λ (y : ℕ). eqb y 0) pad_is
 
+        -- whatever the count
         pub at_pad : (n % 2 * last ≡ 0 → ⊥) → None ≡ step_at s p
-        at_pad g = step_bad s p (good_as ∙ ne_eqb _ _ g)
+        at_pad g = elim (dec_lt record_limit n) [
+          | yes h ↦ at_large h
+          | no h ↦ step_bad s p (good_as (omega arith) ∙ ne_eqb _ _ g)
+        ]
 
-        pub at_good : n % 2 * last ≡ 0 → Some (p + (2 + n + n % 2)) ≡ step_at s p
-        at_good g = step_good s p _ n here (omega arith) (good_as ∙ eq-eqb _ _ g)
+        pub at_good : n ≤ record_limit → n % 2 * last ≡ 0 → Some (p + (2 + n + n % 2)) ≡ step_at s p
+        at_good few g = step_good s p _ n here (omega arith) (good_as few ∙ eq-eqb _ _ g)
 
 -- n records up to p: what is left is whole if the stream is, and has the other records
 pub record Walked (s : List ℕ) (p n : ℕ) : Type 0 where

@@ -30,7 +30,7 @@ pub(crate) fn clear(image: &mut Image, size: u32) -> Option<()>
     if IMAGE_LIMIT < size {
         return None;
     }
-    // What stays is filled as one part; to let it go first would fill it twice.
+    // What stays is filled as one part: `clear` writes zeros over what goes, so that those would be written twice.
     image.truncate(size);
     image.fill(0);
     let zeros = [0; PART];

@@ -37,7 +37,7 @@ fn replace_by(
 }
 
 // Stays: as `write_record` but for its last line, which replaces where that one appends: a closure would hold the image.
-// Record i by the data that were sent, coded.
+// Record i by the data that were sent, coded, in a room as long as their coding wants.
 fn update_coded<C: Coding>(
     image: &mut [u8],
     p: Layout,
@@ -79,5 +79,6 @@ pub fn update(
         let mut room = [0u8; RECORD_LIMIT];
         return update_coded::<Text>(image, p, slot, i, data, &mut room);
     }
+    // Data want no room.
     update_coded::<Plain>(image, p, slot, i, data, &mut [])
 }

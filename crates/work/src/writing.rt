@@ -108,7 +108,7 @@ fn write_stored(
     write_next(image, p, slot, i, stored, data)
 }
 
-// A record of the sequential file in a slot, coded.
+// A record of the sequential file in a slot, coded, in a room as long as its coding wants.
 fn write_record<C: Coding>(
     image: &mut [u8],
     p: Layout,
@@ -150,5 +150,6 @@ pub fn write(
         let mut room = [0u8; RECORD_LIMIT];
         return write_record::<Text>(image, p, slot, i, data, &mut room);
     }
+    // Data want no room.
     write_record::<Plain>(image, p, slot, i, data, &mut [])
 }

@@ -37,7 +37,7 @@ pub returns-then-n-from-ne0 : goal.returns-then-n-from-ne0
 returns-then-n-from-ne0 c =
     let a = c.args in
     let w = c.word_at-n.ensures.0 ∙ run_word a.self.now.map.now a.p a.run c.requires.3 a.self.now.img.now a.self.now.mapped c.requires.2 (omega arith) in
-    at_pad a.self.now.img.now a.self.now.map.now a.self.now.mapped a.e c.requires.0 a.p _ w (omega arith) (omega arith) (omega arith)
+    at_pad a.self.now.img.now a.self.now.map.now a.self.now.mapped a.e c.requires.0 a.p _ w (omega arith) (omega arith)
     (rw (c.from.ensures, c.byte_before.ensures) at c.if-n-from-ne0.true)
 
 pub returns : goal.returns
