@@ -42,7 +42,7 @@ impl Desk {
         Reply { answer, desk: self }
     }
 
-    // A transfer: the LUN moves to what was moved, and not by `set_lun`, by which assign, close and rewind put theirs.
+    // A transfer: the LUN moves to what was moved. The place is written here, and `set_lun` is for the calls that seat, free or rewind a LUN.
     pub(crate) fn settle(&mut self, lun: u32, t: Transfer) -> Report
         requires { lun < lun_count }
         ensures report { result ≡ Moved t.bytes }

@@ -44,7 +44,7 @@ fn claim_bits(marks: &mut [u8], s: usize, n: usize) -> Result<(), Clash>
     Ok(())
 }
 
-// Claims n sectors from s on: the bytes that they fill at once, and those of one byte at once. Inlined, since a call for each segment is a sixth
+// Claims n sectors from s on: the bytes that they fill at once, and those of one byte at once. Inlined, since a call for each segment is an eighth
 // of the check of a volume whose files lie scattered.
 #[inline(always)]
 fn claim_run(marks: &mut [u8], s: usize, n: usize) -> Result<(), Clash>
